@@ -1,0 +1,11 @@
+pub mod Choose
+pub mod Xor
+pub mod Bit
+pub mod Sum
+pub mod Place
+pub mod Tab
+pub mod Part
+pub mod Patch
+pub mod Rows
+pub mod Lent
+pub mod Number

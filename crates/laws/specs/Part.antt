@@ -1,0 +1,23 @@
+-- Parts of a list, a list with a part put in its place, and a list by what stands at each place.
+-- Assumes nothing.
+use Prim.Native.Nat.{ℕ, zero, suc, _+_, _≤_}
+use mathlib.Core.List.{List, [], _∷_, _++_}
+use mathlib.Core.Logic.{_⊎_}
+use lib.ListN.{length, take, drop}
+
+-- the n bytes of s from at
+unfoldable pub part : List ℕ → ℕ → ℕ → List ℕ
+part s at n = take n (drop at s)
+
+-- s with the bytes from at replaced by those of v
+unfoldable pub put : List ℕ → ℕ → List ℕ → List ℕ
+put s at v = take at s ++ (v ++ drop (at + length v) s)
+
+-- f 0, f 1, .. f (n - 1)
+unfoldable pub tab : ℕ → (ℕ → ℕ) → List ℕ
+tab zero f = []
+tab (suc n) f = f 0 ∷ tab n (λ o. f (suc o))
+
+-- the n places from a and the m places from b do not overlap
+abbrev pub Clear : ℕ → ℕ → ℕ → ℕ → Type 0
+Clear a n b m = (a + n ≤ b) ⊎ (b + m ≤ a)
