@@ -4,6 +4,5 @@ use Prim.Native.Nat.{ℕ}
 use lib.Bits.{bitXor}
 
 infixl 65 _⊕_
-
 unfoldable pub _⊕_ : ℕ → ℕ → ℕ
 a ⊕ b = bitXor a b

@@ -1,0 +1,11 @@
+pub mod Prime
+pub mod Period
+pub mod Lane
+pub mod Inverse
+pub mod Divide
+pub mod Cauchy
+pub mod Carry
+pub mod Encode
+pub mod Passes
+pub mod Column
+pub mod Weight

@@ -1,0 +1,10 @@
+-- "p is an odd prime."
+-- Assumes nothing.
+use Prim.Native.Nat.{ℕ, _+_, _-_, _%_}
+use mathlib.Core.Bool.{Bool, not, _&&_}
+use lib.Dec.{leb, eqb}
+use Rattle.laws.specs.Choose.{below}
+
+-- 3 or more, and none of the numbers from 2 to p - 1 divides it
+unfoldable pub odd-prime : ℕ → Bool
+odd-prime p = leb 3 p && below (p - 2) (λ d. not (eqb (p % (d + 2)) 0))
