@@ -6,6 +6,7 @@ use mathlib.Core.Path.{_≡_, sym, ap, ap₂, _∙_, fun-ext}
 use native.Mathlib.Nat.{add-mod-right, mod-eq-of-lt, mod-add-div', mod-lt, zero-lt-suc}
 use native.Mathlib.Omega.{arith}
 use lib.Dec.{T}
+use Rattle.laws.proofs.Bit.{bit-digit}
 use Rattle.laws.proofs.Sum.{sum-ext, sum-all, sum-add, sum-front, sum-back, sum-reverse}
 use Rattle.laws.proofs.Xor.{⊕-assoc, ⊕-self, ⊕-zero, zero-⊕}
 use Rattle.laws.specs.Bit.{bit}
@@ -57,7 +58,7 @@ module _ (n : ℕ) where
       (sum-ext n (λ i l. pick-one (w (suc i)) (w′ (suc i)) (t (suc i)) (r .at-suc i l)))
       ∙ zero-⊕ (sum n (λ i. t (suc i))) ∙ tail f h e q
 
-  word-at : n < 61 → T (odd-prime (suc n)) → (b : ℕ) → 0 < b → b ≤ n → Word n b (inv (suc n) b)
+  pub word-at : n < 61 → T (odd-prime (suc n)) → (b : ℕ) → 0 < b → b ≤ n → Word n b (inv (suc n) b)
   word-at small prime zero h k = absurd (omega arith)
   word-at small prime (suc c) h k = word n c small prime k
 
@@ -105,3 +106,13 @@ module _ (n : ℕ) where
       → ((q : ℕ) → D n a b g q ≡ f q) → (q : ℕ) → g q ≡ act n (quot n a b) f q
   only small prime a b f g ha hb ne h e s q =
       sym (divides small prime a b g ha hb ne h e q) ∙ D-act n a b (quot n a b) g q ∙ ap (λ (k : ℕ → ℕ). act n (quot n a b) k q) (fun-ext s)
+
+  pub quot-digit : (a b i : ℕ) → quot n a b i < 2
+  unfolding quot turn
+  quot-digit a b i = bit-digit (inv (suc n) (gap n a b)) ((i + a) % suc n)
+
+  pub quot-periodic : (a b : ℕ) → Periodic (suc n) (quot n a b)
+  unfolding quot turn
+  quot-periodic a b q =
+      let e : q + suc n + a ≡ q + a + suc n = omega arith in
+      ap (bit (inv (suc n) (gap n a b))) (ap (λ (x : ℕ). x % suc n) e ∙ add-mod-right (q + a) (suc n))

@@ -1,13 +1,14 @@
 -- Lanes under the products with x^a + x^b and with a word: sums, order, period, even weight.
 -- Assumes nothing.
-use Prim.Native.Nat.{ℕ, suc, _+_, _-_, _*_, _≤_}
+use Prim.Native.Nat.{ℕ, suc, _+_, _-_, _*_, _≤_, _%_, _<_}
 use mathlib.Core.Path.{_≡_, sym, ap, ap₂, _∙_}
+use native.Mathlib.Nat.{mod-eq-of-lt, add-mod-right}
 use native.Mathlib.Omega.{arith}
-use Rattle.laws.proofs.Sum.{cancel, swap, pick-add, pick-zero, pick-pick, sum-ext, sum-all, sum-none, sum-add, sum-pick, sum-swap}
+use Rattle.laws.proofs.Sum.{cancel, swap, pick-add, pick-zero, pick-pick, sum-ext, sum-all, sum-none, sum-add, sum-pick, sum-swap, sum-reverse, pick-swap}
 use Rattle.laws.proofs.Xor.{⊕-assoc, ⊕-comm, ⊕-self}
 use Rattle.laws.specs.Sum.{pick, sum}
 use Rattle.laws.specs.Xor.{_⊕_}
-use Rattle.algebra.proofs.Period.{level, rotate}
+use Rattle.algebra.proofs.Period.{level, rotate, at-mod}
 use Rattle.algebra.specs.Lane.{Periodic, D, act, Even}
 
 module _ (n : ℕ) where
@@ -93,3 +94,24 @@ module _ (n : ℕ) where
       ∙ sum-all (suc n) (λ j. sum-all (suc n) (λ i. pick-pick (v i) (w j) (f (q + i * n + j * n))
       ∙ ap (λ (r : ℕ). pick (w j) (pick (v i) (f r))) (omega arith))
       ∙ sum-pick (w j) (suc n) (λ i. pick (v i) (f (q + j * n + i * n))))
+
+  -- the product, by the places of the lane
+  pub by-place : (w f : ℕ → ℕ) → Periodic (suc n) f → (q : ℕ) → act n w f q ≡ sum (suc n) (λ t. pick (w ((q + (suc n - t)) % suc n)) (f t))
+  unfolding act
+  by-place w f h q =
+      let G : ℕ → ℕ = λ j. pick (w (j % suc n)) (f (q + j * n)) in
+      let H : ℕ → ℕ = λ j. G (j + (q + 1)) in
+      sum-ext (suc n) (λ j l. ap (λ (x : ℕ). pick (w x) (f (q + j * n))) (sym (mod-eq-of-lt l)))
+      ∙ sym (rotate (suc n) G (λ j. ap₂ (λ (x y : ℕ). pick (w x) y) (add-mod-right j (suc n)) (level (suc n) f h 0 n (q + (j + suc n) * n) (q + j * n) (omega arith))) (q + 1))
+      ∙ sym (sum-reverse n H)
+      ∙ sum-ext (suc n) (λ t l.
+      let e : n - t + (q + 1) ≡ q + (suc n - t) = omega arith in
+      ap G e
+      ∙ ap (pick (w ((q + (suc n - t)) % suc n))) (level (suc n) f h 1 (q + (suc n - t)) (q + (q + (suc n - t)) * n) t (omega arith)))
+
+  -- the product of two lanes of bits, in either order
+  pub act-swap : (f g : ℕ → ℕ) → Periodic (suc n) f → Periodic (suc n) g → ((q : ℕ) → f q < 2) → ((q : ℕ) → g q < 2) → (q : ℕ) → act n f g q ≡ act n g f q
+  act-swap f g hf hg df dg q =
+      by-place f g hg q
+      ∙ sum-all (suc n) (λ t. pick-swap (f ((q + (suc n - t)) % suc n)) (g t) (df _) (dg t) ∙ ap (pick (g t)) (at-mod n f hf (q + (suc n - t))))
+      ∙ sym (act-code g f hf q)

@@ -9,3 +9,7 @@ pub mod Encode
 pub mod Passes
 pub mod Column
 pub mod Weight
+pub mod Word
+pub mod Action
+pub mod Words
+pub mod Linear

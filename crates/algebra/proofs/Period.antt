@@ -1,8 +1,8 @@
 -- Functions of a period.
 -- Assumes nothing.
-use Prim.Native.Nat.{ℕ, zero, suc, _+_, _*_}
+use Prim.Native.Nat.{ℕ, zero, suc, _+_, _*_, _%_, _/_}
 use mathlib.Core.Path.{_≡_, sym, ap, _∙_}
-use native.Mathlib.Nat.{add-zero}
+use native.Mathlib.Nat.{add-zero, mod-add-div'}
 use native.Mathlib.Omega.{arith}
 use Rattle.laws.proofs.Sum.{cancel, sum-all, sum-front, sum-back}
 use Rattle.laws.proofs.Xor.{⊕-comm}
@@ -30,3 +30,6 @@ rotate p f h (suc n) =
     sum-all p (λ q. ap f (omega arith))
     ∙ rotate-one p (λ q. f (q + n)) (λ q. ap f (omega arith) ∙ h (q + n))
     ∙ rotate p f h n
+
+pub at-mod : (n : ℕ) (f : ℕ → ℕ) → Periodic (suc n) f → (q : ℕ) → f (q % suc n) ≡ f q
+at-mod n f h q = level (suc n) f h (q / suc n) 0 (q % suc n) q (mod-add-div' q (suc n) ∙ omega arith)

@@ -29,6 +29,15 @@ unfolding pick
 pick-pick zero c x = sym (pick-zero c)
 pick-pick (suc b) c x = refl
 
+pub pick-swap : (a b : ℕ) → a < 2 → b < 2 → pick a b ≡ pick b a
+unfolding pick
+pick-swap zero zero h k = refl
+pick-swap zero (suc b) h k = refl
+pick-swap (suc a) zero h k = refl
+pick-swap (suc zero) (suc zero) h k = refl
+pick-swap (suc zero) (suc (suc b)) h k = absurd (omega arith)
+pick-swap (suc (suc a)) (suc b) h k = absurd (omega arith)
+
 pub sum-ext : (n : ℕ) {f g : ℕ → ℕ} → ((i : ℕ) → i < n → f i ≡ g i) → sum n f ≡ sum n g
 unfolding sum
 sum-ext zero h = refl
