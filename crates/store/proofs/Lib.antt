@@ -1,0 +1,8 @@
+pub mod Lists
+pub mod Keyed
+pub mod Parity
+pub mod Last
+pub mod Shuffle
+pub mod Order
+pub mod Demand
+pub mod Carry

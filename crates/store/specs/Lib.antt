@@ -1,0 +1,4 @@
+pub mod Lists
+pub mod Store
+pub mod Kinds
+pub mod Image
