@@ -13,3 +13,4 @@ pub mod Word
 pub mod Action
 pub mod Words
 pub mod Linear
+pub mod Touch

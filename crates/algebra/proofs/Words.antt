@@ -89,7 +89,11 @@ module _ (n : ℕ) where
 
 -- ---- what document 01 says of words
 
-over-lt : (p a b w : ℕ) → overOf p a b w < 2 ^ p
+pub times-lt : (p a b w : ℕ) → timesOf p a b w < 2 ^ p
+unfolding timesOf
+times-lt p a b w = pack-lt p (D (pred p) a b (laneOf p w))
+
+pub over-lt : (p a b w : ℕ) → overOf p a b w < 2 ^ p
 unfolding overOf
 over-lt p a b w = pack-lt p (over (pred p) a b (laneOf p w))
 
@@ -98,15 +102,15 @@ pub record Quotient (p s a b c : ℕ) : Type 0 where
   pub is-element : T (element p c)
   pub times-back : timesOf p a b c ≡ s
 
-element-below : (p w : ℕ) → T (element p w) → w < 2 ^ p
+pub element-below : (p w : ℕ) → T (element p w) → w < 2 ^ p
 unfolding element
 element-below p w t = ltb→lt w (2 ^ p) (and-left (ltb w (2 ^ p)) (eqb (weight w p % 2) 0) t)
 
-element-weight : (p w : ℕ) → T (element p w) → weight w p % 2 ≡ 0
+pub element-weight : (p w : ℕ) → T (element p w) → weight w p % 2 ≡ 0
 unfolding element
 element-weight p w t = eqb→eq (weight w p % 2) 0 (and-right (ltb w (2 ^ p)) (eqb (weight w p % 2) 0) t)
 
-is-element-of : (p w : ℕ) → w < 2 ^ p → weight w p % 2 ≡ 0 → T (element p w)
+pub is-element-of : (p w : ℕ) → w < 2 ^ p → weight w p % 2 ≡ 0 → T (element p w)
 unfolding element
 is-element-of p w h e =
     both-T (ltb w (2 ^ p)) (eqb (weight w p % 2) 0) (lt→ltb w (2 ^ p) h) (subst (λ (x : ℕ). T (eqb x 0)) (sym e) tt)

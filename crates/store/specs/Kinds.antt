@@ -7,6 +7,7 @@ use mathlib.Core.Logic.{_↔_}
 use mathlib.Core.Path.{_≡_}
 use lib.Dec.{eqb, leb}
 use Rattle.laws.specs.Choose.{choose}
+use Rattle.laws.specs.Sum.{total}
 use Rattle.store.specs.Lists.{keep, Shuffled}
 use Rattle.store.specs.Store.{Write, Entry, State, Rules, Settled, sound, answer}
 
@@ -29,10 +30,6 @@ renewed b = (b + 1) % 2 ^ 32
 unfoldable pub tally : ℕ → (ℕ → Bool) → ℕ
 tally zero p = 0
 tally (suc n) p = tally n p + choose (p n) 1 0
-
-unfoldable pub total : ℕ → (ℕ → ℕ) → ℕ
-total zero f = 0
-total (suc n) f = total n f + f n
 
 -- the place of a revision
 unfoldable pub keyed : Kind → ℕ → ℕ → ℕ → ℕ
