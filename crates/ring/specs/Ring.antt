@@ -1,8 +1,13 @@
 -- What the ring's inner functions ask of their numbers.
 -- Assumes nothing.
-use Prim.Native.Nat.{ℕ, _^_, _<_}
+use Prim.Native.Nat.{ℕ, _^_, _<_, _≤_}
 use Rattle.algebra.specs.Prime.{Modulus}
 use Rattle.algebra.specs.Lane.{Apart}
+
+-- a word of the ring
+pub record Factor (p w : ℕ) : Type 0 where
+  pub small : p ≤ 61
+  pub word : w < 2 ^ p
 
 -- 1 + x^c divides
 pub record Step (p c : ℕ) : Type 0 where

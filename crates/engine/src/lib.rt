@@ -1,0 +1,109 @@
+// The two moves on strips that every call is made of, and the rows that a word takes of a column.
+ghost use mathlib.Core.Path.{_≡_};
+ghost use Prim.Native.Nat.{_<_, _≤_};
+ghost use lib.ListN.{length};
+ghost use Rattle.laws.specs.Bit.{bit};
+ghost use Rattle.laws.specs.Patch.{Patched};
+ghost use Rattle.engine.specs.Mask.{takesOf, maskOf};
+ghost use Rattle.engine.specs.Strips.{added, onto, gathered, taken, Strip, Added, Rows, Scattered, Columns};
+
+// Bit i of w.
+fn coefficient(w: u64, i: usize) -> u64
+    requires { ⌜ i < 64 ⌝ }
+    ensures { λ r. ⌜ r ≡ bit w i ⌝ }
+{
+    (w >> i) % 2
+}
+
+// 1 where row t of a column takes part in row q of w · column, else 0.
+fn takes(w: u64, q: usize, t: usize, p: usize) -> u64
+    requires { ⌜ (q < p) × (t < p) × (p ≤ 61) ⌝ }
+    ensures { λ r. ⌜ r ≡ takesOf p w q t ⌝ }
+{
+    coefficient(w, (q + (p - t)) % p) ^ coefficient(w, (q + 1) % p)
+}
+
+// The rows of a column that take part in row q of w · column.
+pub fn mask(w: u64, q: usize, p: usize) -> u64
+    requires { ⌜ (q < p) × (p ≤ 61) ⌝ }
+    ensures { λ r. ⌜ r ≡ maskOf p w q ⌝ }
+{
+    let rows = p - 1;
+    let mut m = 0;
+    let mut t: usize = 0;
+    while t < rows {
+        m += takes(w, q, t, p) << t;
+        t += 1;
+    }
+    m
+}
+
+// XORs the n bytes of src at `from` into the n bytes of s at `to`.
+fn add(s: &mut [u8], to: usize, src: &[u8], from: usize, n: usize)
+    requires { ⌜ Strip (now s) (now src) to from n ⌝ }
+    ensures { λ _. ⌜ Patched (now (s .entry)) (now (s .exit)) to n (added (now (s .entry)) to (now (src .entry)) from 1) ⌝ }
+{
+    let mut i: usize = 0;
+    while i < n {
+        s[to + i] = s[to + i] ^ src[from + i];
+        i += 1;
+    }
+}
+
+// The same where the lowest bit of `on` is set; gives that bit.
+fn add_where(s: &mut [u8], to: usize, src: &[u8], from: usize, n: usize, on: u64) -> u64
+    requires { ⌜ Strip (now s) (now src) to from n ⌝ }
+    ensures { λ r. ⌜ Added (now (s .entry)) (now (s .exit)) (now (src .entry)) to from n on r ⌝ }
+{
+    if on % 2 == 1 {
+        add(s, to, src, from, n);
+        1
+    } else {
+        0
+    }
+}
+
+// XORs the rows that the mask names, of the rows of src at `at`, into out.
+pub fn gather(src: &[u8], at: usize, rows: usize, mask: u64, out: &mut [u8])
+    requires { ⌜ Rows (now src) (now out) at rows ⌝ }
+    ensures { λ _. ⌜ Patched (now (out .entry)) (now (out .exit)) 0 (length (now (out .entry))) (onto (now (out .entry)) (gathered (now (src .entry)) at (length (now (out .entry))) mask rows)) ⌝ }
+{
+    let b = out.len();
+    let mut pos = at;
+    let mut t: usize = 0;
+    while t < rows {
+        add_where(out, 0, src, pos, b, mask >> t);
+        pos += b;
+        t += 1;
+    }
+}
+
+// XORs the strip into the rows that the mask names, of the rows of s at `at`; gives how many these are.
+pub fn scatter(s: &mut [u8], at: usize, rows: usize, mask: u64, strip: &[u8]) -> u64
+    requires { ⌜ Rows (now s) (now strip) at rows ⌝ }
+    ensures { λ r. ⌜ Scattered (now (s .entry)) (now (s .exit)) (now (strip .entry)) at rows mask r ⌝ }
+{
+    let b = strip.len();
+    let mut pos = at;
+    let mut count = 0;
+    let mut t: usize = 0;
+    while t < rows {
+        count += add_where(s, pos, strip, 0, b, mask >> t);
+        pos += b;
+        t += 1;
+    }
+    count
+}
+
+// XORs row q of the sum of word · column over the columns of src at `ats` into out.
+pub fn take(src: &[u8], ats: &[usize], words: &[u64], q: usize, p: usize, out: &mut [u8])
+    requires { ⌜ Columns p q (now src) (now ats) (now words) (now out) ⌝ }
+    ensures { λ _. ⌜ Patched (now (out .entry)) (now (out .exit)) 0 (length (now (out .entry))) (onto (now (out .entry)) (taken p (now (src .entry)) (length (now (out .entry))) q (now (ats .entry)) (now (words .entry)))) ⌝ }
+{
+    let mut m: usize = 0;
+    while m < words.len() {
+        let rows = mask(words[m], q, p);
+        gather(src, ats[m], p - 1, rows, out);
+        m += 1;
+    }
+}

@@ -1,0 +1,100 @@
+-- What the tests of `admits` and `checked` show of their definitions.
+-- Assumes nothing.
+use Prim.Native.Nat.{ℕ, _+_, _%_, _<_, _≤_}
+use mathlib.Core.Bool.{Bool, true, false, not, _&&_}
+use mathlib.Core.Logic.{_≢_}
+use mathlib.Core.Path.{_≡_, refl, sym, _∙_}
+use native.Mathlib.Decide.{ℕ-discrete}
+use native.Mathlib.Omega.{arith}
+use lib.Dec.{leb, T, leb→le, le→leb}
+use borrow.Author.Tests.{le-leb, not-true, not-false}
+use Rattle.laws.proofs.Choose.{and-left, and-right, both-T, T-true}
+use Rattle.algebra.proofs.Prime.{OddPrime, prime-is, is-prime}
+use Rattle.algebra.specs.Prime.{odd-prime}
+use Rattle.refusal.specs.declared.Refusal.the-variants.{Prime, Shape, Strip}
+use Rattle.stripe.specs.Params.{admitted-prime, admitted-shape, admitted-strip, checkedOf}
+use Rattle.stripe.specs.declared.Checked.the-variants.{Sound, Refused}
+
+-- no number from 2 to below n divides p
+abbrev pub Undivided : ℕ → ℕ → Type 0
+Undivided p n = (d : ℕ) → 2 ≤ d → d < n → p % d ≢ 0
+
+pub undivided-none : (p : ℕ) → Undivided p 2
+undivided-none p d h l = absurd (omega arith)
+
+pub undivided-more : (p n : ℕ) → Undivided p n → p % n ≢ 0 → Undivided p (n + 1)
+undivided-more p n u m d h l = elim (ℕ-discrete d n) [ yes e ↦ rw e m | no e ↦ u d h (omega arith) ]
+
+untrue : (b : Bool) → (T b → ⊥) → false ≡ b
+untrue true n = absurd (n tt)
+untrue false n = refl
+
+-- ---- the ways out of `admits`
+
+admitted-odd : (p : ℕ) → T (admitted-prime p) → OddPrime p
+unfolding admitted-prime
+admitted-odd p t = prime-is p (and-left (odd-prime p) (leb p 61) t)
+
+pub below-three : (p : ℕ) → p < 3 → false ≡ admitted-prime p
+below-three p h = untrue _ (λ t. omega (arith, admitted-odd p t .three))
+
+pub above-largest : (p : ℕ) → 61 < p → false ≡ admitted-prime p
+unfolding admitted-prime
+above-largest p h = untrue _ (λ t. omega (arith, leb→le p 61 (and-right (odd-prime p) (leb p 61) t)))
+
+pub divided : (p d : ℕ) → 2 ≤ d → d < p → p % d ≡ 0 → false ≡ admitted-prime p
+divided p d h l e = untrue _ (λ t. admitted-odd p t .no-divisor d h l e)
+
+pub undivided : (p d : ℕ) → 3 ≤ p → p ≤ 61 → p ≤ d → Undivided p d → true ≡ admitted-prime p
+unfolding admitted-prime
+undivided p d h l g u =
+    sym (T-true _ (both-T (odd-prime p) (leb p 61) (is-prime p (record { three = h; no-divisor = λ e f k. u e f (omega arith) })) (le→leb p 61 l)))
+
+-- ---- the ways out of `admits_shape` and `admits_strip`
+
+pub record Shape-is (p k r : ℕ) : Type 0 where
+  pub k-low : 1 ≤ k
+  pub r-low : 1 ≤ r
+  pub fits : k + r ≤ p
+
+pub shape-is : (p k r : ℕ) → T (admitted-shape p k r) → Shape-is p k r
+unfolding admitted-shape
+shape-is p k r t =
+    let u = and-right (leb 1 k) (leb 1 r && leb (k + r) p) t in
+    record { k-low = leb→le 1 k (and-left (leb 1 k) _ t); r-low = leb→le 1 r (and-left (leb 1 r) _ u); fits = leb→le (k + r) p (and-right (leb 1 r) _ u) }
+
+pub no-shape : (p k r : ℕ) → (1 ≤ k → 1 ≤ r → k + r ≤ p → ⊥) → false ≡ admitted-shape p k r
+no-shape p k r n = untrue _ (λ t. let s = shape-is p k r t in n (s .k-low) (s .r-low) (s .fits))
+
+pub shape : (p k r : ℕ) → 1 ≤ k → 1 ≤ r → k + r ≤ p → true ≡ admitted-shape p k r
+unfolding admitted-shape
+shape p k r f g l = simp (le-leb 1 k f, le-leb 1 r g, le-leb (k + r) p l)
+
+pub no-strip : (b : ℕ) → (1 ≤ b → b ≤ 512 → ⊥) → false ≡ admitted-strip b
+unfolding admitted-strip
+no-strip b n = untrue _ (λ t. n (leb→le 1 b (and-left (leb 1 b) _ t)) (leb→le b 512 (and-right (leb 1 b) _ t)))
+
+pub strip : (b : ℕ) → 1 ≤ b → b ≤ 512 → true ≡ admitted-strip b
+unfolding admitted-strip
+strip b f l = simp (le-leb 1 b f, le-leb b 512 l)
+
+-- ---- the ways out of `checked`: x, y and z are what the three tests gave
+
+module _ (p k r b : ℕ) (x : Bool) (e : x ≡ admitted-prime p) where
+  pub prime-refused : not x ≡ true → Refused Prime ≡ checkedOf p k r b
+  unfolding checkedOf
+  prime-refused h = simp (sym e ∙ not-true x h)
+
+  module _ (o : not x ≡ false) (y : Bool) (f : y ≡ admitted-shape p k r) where
+    pub shape-refused : not y ≡ true → Refused Shape ≡ checkedOf p k r b
+    unfolding checkedOf
+    shape-refused h = simp (sym e ∙ not-false x o, sym f ∙ not-true y h)
+
+    module _ (n : not y ≡ false) (z : Bool) (g : z ≡ admitted-strip b) where
+      pub strip-refused : not z ≡ true → Refused Strip ≡ checkedOf p k r b
+      unfolding checkedOf
+      strip-refused h = simp (sym e ∙ not-false x o, sym f ∙ not-false y n, sym g ∙ not-true z h)
+
+      pub sound : not z ≡ false → Sound (record { p = p; k = k; r = r; b = b }) ≡ checkedOf p k r b
+      unfolding checkedOf
+      sound h = simp (sym e ∙ not-false x o, sym f ∙ not-false y n, sym g ∙ not-false z h)

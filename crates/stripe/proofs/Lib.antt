@@ -1,0 +1,5 @@
+pub mod Places
+pub mod Laws
+pub mod Readings
+pub mod Frame
+pub mod Examples

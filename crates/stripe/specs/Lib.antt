@@ -1,0 +1,4 @@
+pub mod Params
+pub mod Layout
+pub mod Reading
+pub mod Examples
