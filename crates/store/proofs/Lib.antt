@@ -4,5 +4,5 @@ pub mod Parity
 pub mod Last
 pub mod Shuffle
 pub mod Order
-pub mod Demand
+pub mod Arrange
 pub mod Carry

@@ -1,11 +1,11 @@
 -- Tests as equations of Bool, sublists and permutations.
 -- Assumes nothing.
 use Prim.Native.Nat.{ℕ, _≤_, _<_}
-use mathlib.Core.Bool.{Bool, true, false, not, _&&_, true≢false, false≢true}
+use mathlib.Core.Bool.{Bool, true, false, _&&_, true≢false, false≢true}
 use mathlib.Core.List.{List, [], _∷_}
 use mathlib.Core.Path.{_≡_, refl, sym, ap, subst, _∙_}
 use native.Mathlib.Omega.{arith}
-use lib.Dec.{T, eqb, ltb, eqb→eq, eqb-refl, ltb→lt, lt→ltb, nltb→le}
+use lib.Dec.{T, eqb, ltb, eqb→eq, eqb-refl, ltb→lt}
 use Rattle.laws.proofs.Choose.{true-T, T-true}
 use Rattle.laws.specs.Choose.{choose}
 use Rattle.store.specs.Lists.{keep, Shuffled, done, next, swap, trans}
@@ -31,18 +31,12 @@ false-eqb m n e h = true≢false (sym (eqb-true m n h) ∙ e)
 pub true-ltb : (m n : ℕ) → ltb m n ≡ true → m < n
 true-ltb m n e = ltb→lt m n (true-T (ltb m n) e)
 
-pub ltb-true : (m n : ℕ) → m < n → ltb m n ≡ true
-ltb-true m n h = T-true (ltb m n) (lt→ltb m n h)
-
 pub ltb-false : (m n : ℕ) → n ≤ m → ltb m n ≡ false
 ltb-false m n h = go (ltb m n) refl
   where
     go : (b : Bool) → ltb m n ≡ b → ltb m n ≡ false
     go true e = let l = true-ltb m n e in absurd (omega arith)
     go false e = e
-
-pub false-ltb : (m n : ℕ) → ltb m n ≡ false → n ≤ m
-false-ltb m n e = nltb→le m n (subst (λ (b : Bool). T (not b)) (sym e) tt)
 
 pub and-left : (a b : Bool) → (a && b) ≡ true → a ≡ true
 and-left true b e = refl

@@ -1,20 +1,18 @@
--- Demand 3 over both kinds of revision and any code.
+-- An arrangement that keeps the order of the writes to a column, or to a strip, keeps it for each key.
 -- Assumes nothing.
-use Prim.Native.Nat.{ℕ, _+_, _-_, _/_, _%_, _^_, _<_}
+use Prim.Native.Nat.{ℕ, _/_, _%_, _<_}
 use mathlib.Core.Bool.{Bool, true, false, _&&_, true≢false}
 use mathlib.Core.List.{List, [], _∷_}
-use mathlib.Core.Logic.{_↔_}
 use mathlib.Core.Path.{_≡_, refl, sym, ap, subst, _∙_}
 use native.Mathlib.Omega.{arith}
 use lib.Arith.{digits-div, digits-mod}
-use lib.Dec.{eqb, ltb, leb}
+use lib.Dec.{eqb, ltb}
 use lib.ListN.{length}
 use Rattle.laws.specs.Choose.{choose}
 use Rattle.store.proofs.Lists.{keep-yes, keep-no, true-eqb, eqb-true, true-ltb, and-left, and-right, and-true}
-use Rattle.store.proofs.Order.{settled}
-use Rattle.store.specs.Kinds.{Kind, by-column, by-strip, graded, judged, keyed, stripe, to-place, Arrangement, Demand}
+use Rattle.store.specs.Kinds.{Kind, by-column, by-strip, keyed, rulesOf, to-place, Arrangement}
 use Rattle.store.specs.Lists.{keep, Shuffled}
-use Rattle.store.specs.Store.{Write, Entry, State, Rules, sound, keyOf, verdict, reply, answer, to, Arranged}
+use Rattle.store.specs.Store.{Write, Entry, Rules, sound, keyOf, to, Arranged}
 
 -- ---- sublists of sublists
 
@@ -80,13 +78,13 @@ arranged-by R place covers es fs shuffled kept =
 
 -- ---- both kinds
 
-module _ (k r rows b : ℕ) (touches : ℕ → ℕ → ℕ → ℕ → Bool) where
-  row-of : (kind : Kind) (w : Write) → sound (stripe kind k r rows b touches) w ≡ true → w .row < rows
+module _ (k rows b : ℕ) (judged : ℕ → ℕ → ℕ) (renewed : ℕ → ℕ) (count : ℕ → ℕ → ℕ) (touches : ℕ → ℕ → ℕ → ℕ → Bool) where
+  row-of : (kind : Kind) (w : Write) → sound (rulesOf kind k rows b judged renewed count touches) w ≡ true → w .row < rows
   unfolding sound
   row-of kind w e =
       true-ltb (w .row) rows (and-left (ltb (w .row) rows) (eqb (length (w .strip)) b) (and-right (ltb (w .column) k) (ltb (w .row) rows && eqb (length (w .strip)) b) e))
 
-  covers : (kind : Kind) (v w : Write) → sound (stripe kind k r rows b touches) v ≡ true → sound (stripe kind k r rows b touches) w ≡ true
+  covers : (kind : Kind) (v w : Write) → sound (rulesOf kind k rows b judged renewed count touches) v ≡ true → sound (rulesOf kind k rows b judged renewed count touches) w ≡ true
       → keyed kind rows (w .column) (w .row) ≡ keyed kind rows (v .column) (v .row) → to-place kind (v .column) (v .row) w ≡ true
   unfolding keyed to-place
   covers by-column v w f g e = eqb-true (w .column) (v .column) e
@@ -97,42 +95,5 @@ module _ (k r rows b : ℕ) (touches : ℕ → ℕ → ℕ → ℕ → Bool) whe
       (eqb-true (w .column) (v .column) (sym (digits-div (w .column) m) ∙ ap (λ (x : ℕ). x / rows) e ∙ digits-div (v .column) l))
       (eqb-true (w .row) (v .row) (sym (digits-mod (w .column) m) ∙ ap (λ (x : ℕ). x % rows) e ∙ digits-mod (v .column) l))
 
-  pub arranged : (kind : Kind) (es fs : List Entry) → Arrangement kind k es fs → Arranged (stripe kind k r rows b touches) es fs
-  arranged kind es fs a = arranged-by (stripe kind k r rows b touches) (to-place kind) (covers kind) es fs (a .same-writes) (a .order-kept)
-
--- ---- the judgement
-
-graded-zero : (d : ℕ) → graded d ≡ 0 → d ≡ 0
-unfolding graded
-graded-zero d e = go (eqb d 0) refl (leb d (2 ^ 31)) e
-  where
-    go : (a : Bool) → eqb d 0 ≡ a → (c : Bool) → _≡_ {A = ℕ} (choose a 0 (choose c 10 11)) 0 → d ≡ 0
-    go true h c f = true-eqb d 0 h
-    go false h true f = absurd (omega arith)
-    go false h false f = absurd (omega arith)
-
--- 0 exactly where the base is the revision
-pub current : (n c : ℕ) → n < 2 ^ 32 → c < 2 ^ 32 → (judged n c ≡ 0) ↔ (n ≡ c)
-unfolding judged graded
-current n c hn hc = (λ e. let z = graded-zero ((n + (2 ^ 32 - c)) % 2 ^ 32) e in omega arith, λ e. let z : (n + (2 ^ 32 - c)) % 2 ^ 32 ≡ 0 = omega arith in ap graded z ∙ zero-is)
-  where
-    zero-is : graded 0 ≡ 0
-    zero-is = refl
-
-pub exactly : (kind : Kind) (k r rows b : ℕ) (touches : ℕ → ℕ → ℕ → ℕ → Bool) (z : State) (w : Write) → sound (stripe kind k r rows b touches) w ≡ true
-    → z .revision (keyed kind rows (w .column) (w .row)) < 2 ^ 32 → w .base < 2 ^ 32
-    → ((answer (stripe kind k r rows b touches) z w) .refusal ≡ 0) ↔ (z .revision (keyed kind rows (w .column) (w .row)) ≡ w .base)
-unfolding answer reply verdict
-exactly kind k r rows b touches z w e hn hb =
-    let judge : (answer (stripe kind k r rows b touches) z w) .refusal ≡ judged (z .revision (keyed kind rows (w .column) (w .row))) (w .base) = rw e in
-    let now = current (z .revision (keyed kind rows (w .column) (w .row))) (w .base) hn hb in
-    (λ g. now .0 (sym judge ∙ g), λ g. judge ∙ now .1 g)
-
--- THE THEOREM, for both kinds and any code
-pub demand : (kind : Kind) (k r rows b : ℕ) (touches : ℕ → ℕ → ℕ → ℕ → Bool) (s : State) (es fs : List Entry)
-    → Arrangement kind k es fs → Demand kind k r rows b touches s es fs
-demand kind k r rows b touches s es fs a =
-    record {
-      settled = settled (stripe kind k r rows b touches) s es fs (arranged k r rows b touches kind es fs a);
-      refused-exactly = exactly kind k r rows b touches;
-    }
+  pub arranged : (kind : Kind) (es fs : List Entry) → Arrangement kind k es fs → Arranged (rulesOf kind k rows b judged renewed count touches) es fs
+  arranged kind es fs a = arranged-by (rulesOf kind k rows b judged renewed count touches) (to-place kind) (covers kind) es fs (a .same-writes) (a .order-kept)
