@@ -1,8 +1,8 @@
 -- The Cauchy system is solved in both directions: solve of encode, and encode of solve.
 -- Assumes nothing.
 use Prim.Native.Nat.{ℕ}
-use mathlib.Core.Path.{_≡_, refl, sym, ap, ap₂, _∙_}
 use mathlib.Core.List.{List, [], _∷_}
+use mathlib.Core.Path.{_≡_, refl, sym, ap, ap₂, _∙_}
 use Rattle.algebra.specs.Cauchy.{Laws, Same, Off, Distinct, Cross}
 use Rattle.algebra.specs.Cauchy as S
 

@@ -13,4 +13,14 @@ pub mod Word
 pub mod Action
 pub mod Words
 pub mod Linear
+pub mod Bounds
+pub mod Lanes
+pub mod Solves
+pub mod Stored
+pub mod Consulted
+pub mod Composed
+pub mod Outside
+pub mod Lost
+pub mod Restored
+pub mod Inverted
 pub mod Touch

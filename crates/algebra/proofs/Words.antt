@@ -175,3 +175,11 @@ product-coefficient n u v q h =
     bit-pack (suc n) (act n (bit u) (laneOf (suc n) v)) q h
     ∙ mod-eq-of-lt (act-lt n 1 (bit u) (laneOf (suc n) v) (laneOf-digit (suc n) v) q)
     ∙ act-code n (bit u) (laneOf (suc n) v) (laneOf-periodic (suc n) v) q
+
+-- to divide is to multiply by the inverse
+pub product-over : (p a b w : ℕ) → productOf p (inverseOf p a b) w ≡ overOf p a b w
+unfolding productOf overOf inverseOf pack
+product-over zero a b w = refl
+product-over (suc n) a b w =
+    ap (pack (suc n)) (fun-ext (act-ext n (bit (pack (suc n) (quot n a b))) (quot n a b) (laneOf (suc n) w)
+    (λ i l. bit-pack (suc n) (quot n a b) i l ∙ mod-eq-of-lt (quot-digit n a b i))))

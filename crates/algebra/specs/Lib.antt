@@ -5,3 +5,4 @@ pub mod Column
 pub mod Word
 pub mod Cauchy
 pub mod Code
+pub mod Recovery

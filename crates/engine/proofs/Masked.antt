@@ -20,10 +20,11 @@ use Rattle.algebra.proofs.Lane.{by-place, D-code}
 use Rattle.algebra.proofs.Word.{laneOf-digit, laneOf-periodic}
 use Rattle.algebra.specs.Column.{lane}
 use Rattle.algebra.specs.Lane.{act, D}
+use Rattle.algebra.specs.Recovery.{acting}
 use Rattle.algebra.specs.Word.{timesOf, laneOf}
 use Rattle.engine.proofs.Laws.{takes-lt}
 use Rattle.engine.specs.Mask.{takesOf, maskOf}
-use Rattle.engine.specs.Strips.{gathered, taken, acting}
+use Rattle.engine.specs.Strips.{gathered, taken}
 
 mask-bit : (n w q t : ℕ) → t < n → bit (maskOf (suc n) w q) t ≡ takesOf (suc n) w q t
 unfolding maskOf

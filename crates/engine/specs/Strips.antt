@@ -8,7 +8,6 @@ use Rattle.laws.specs.Bit.{bit, weight}
 use Rattle.laws.specs.Patch.{Patched}
 use Rattle.laws.specs.Sum.{pick, sum}
 use Rattle.laws.specs.Xor.{_⊕_}
-use Rattle.algebra.specs.Lane.{act}
 use Rattle.algebra.specs.Word.{pred}
 use Rattle.engine.specs.Mask.{maskOf}
 
@@ -66,9 +65,3 @@ unfoldable pub taken : ℕ → List ℕ → ℕ → ℕ → List ℕ → List �
 taken p src b q [] ws i = 0
 taken p src b q (at ∷ ats) [] i = 0
 taken p src b q (at ∷ ats) (w ∷ ws) i = gathered src at b (maskOf p w q) (pred p) i ⊕ taken p src b q ats ws i
-
--- coefficient q of the sum of word · lane along two lists
-abbrev pub acting : ℕ → List ℕ → List (ℕ → ℕ) → ℕ → ℕ
-acting n [] fs q = 0
-acting n (w ∷ ws) [] q = 0
-acting n (w ∷ ws) (f ∷ fs) q = act n (bit w) f q ⊕ acting n ws fs q

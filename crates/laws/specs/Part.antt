@@ -18,6 +18,11 @@ unfoldable pub tab : ℕ → (ℕ → ℕ) → List ℕ
 tab zero f = []
 tab (suc n) f = f 0 ∷ tab n (λ o. f (suc o))
 
+-- the same of anything
+abbrev pub table : {A : Type 0} → ℕ → (ℕ → A) → List A
+table zero f = []
+table (suc n) f = f 0 ∷ table n (λ o. f (suc o))
+
 -- the n places from a and the m places from b do not overlap
 abbrev pub Clear : ℕ → ℕ → ℕ → ℕ → Type 0
 Clear a n b m = (a + n ≤ b) ⊎ (b + m ≤ a)

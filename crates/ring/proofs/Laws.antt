@@ -1,7 +1,7 @@
 -- What each function of the ring owes, over plain numbers.
 use Prim.Native.Nat.{ℕ, zero, suc, _+_, _-_, _*_, _/_, _%_, _^_, _<_, _≤_}
 use mathlib.Core.Logic.{_≢_}
-use mathlib.Core.Path.{_≡_, refl, sym, ap, ap₂, subst, _∙_, fun-ext}
+use mathlib.Core.Path.{_≡_, refl, sym, ap, ap₂, subst, _∙_}
 use native.Mathlib.Decide.{decLt}
 use native.Mathlib.Nat.{mod-eq-of-lt, mod-lt, add-mod-right, mul-le-mul}
 use native.Mathlib.Omega.{arith}
@@ -10,18 +10,18 @@ use lib.Bits.{bitXor}
 use lib.Dec.{T, ltb, ltb→lt}
 use lib.Pow.{split, pow-pos, pow-mono, pow-add, pow-lt, shr-lt}
 use borrow.Author.Tests.{eq-eqb, ne-eqb}
-use Rattle.laws.proofs.Bit.{bit-shr, bit-mod, bit-low, bit-high, pack-lt, bit-pack, is-pack, pack-ext, pack-xor, pack-zero, pack-pick}
+use Rattle.laws.proofs.Bit.{bit-shr, bit-mod, bit-low, bit-high, pack-lt, is-pack, pack-ext, pack-xor, pack-zero, pack-pick}
 use Rattle.laws.proofs.Choose.{implied, below-at}
 use Rattle.laws.specs.Bit.{bit, pack}
 use Rattle.laws.specs.Choose.{implies, below}
 use Rattle.laws.specs.Sum.{pick, sum}
 use Rattle.laws.specs.Xor.{_⊕_}
-use Rattle.algebra.proofs.Column.{act-ext}
-use Rattle.algebra.proofs.Divide.{gap-pos, quot-digit}
+use Rattle.algebra.proofs.Divide.{gap-pos}
 use Rattle.algebra.proofs.Inverse.{word}
 use Rattle.algebra.proofs.Lane.{lower}
 use Rattle.algebra.proofs.Period.{level}
 use Rattle.algebra.proofs.Word.{laneOf-periodic, laneOf-digit}
+use Rattle.algebra.proofs.Words.{product-over}
 use Rattle.algebra.specs.Divide.{evens, inv, quot, turn, gap}
 use Rattle.algebra.specs.Lane.{D, act}
 use Rattle.algebra.specs.Prime.{odd-prime}
@@ -246,13 +246,6 @@ turn-back (suc n) a b h =
     let x : ℕ = inv (suc n) ((b + (suc n - a)) % suc n) in
     pack-ext (suc n) (λ q. laneOf (suc n) x (q + (suc n - a) * n)) (λ q. bit x ((q + a) % suc n))
     (λ q l. ap (λ (y : ℕ). y % 2) (lane-back n a x q h))
-
-product-over : (p a b w : ℕ) → productOf p (inverseOf p a b) w ≡ overOf p a b w
-unfolding productOf overOf inverseOf pack
-product-over zero a b w = refl
-product-over (suc n) a b w =
-    ap (pack (suc n)) (fun-ext (act-ext n (bit (pack (suc n) (quot n a b))) (quot n a b) (laneOf (suc n) w)
-    (λ i l. bit-pack (suc n) (quot n a b) i l ∙ mod-eq-of-lt (quot-digit n a b i))))
 
 module _ (a b p : ℕ) (ha : a < p) (hb : b < p) (ne : a ≢ b) where
   pub gap-above : 0 < (b + (p - a)) % p

@@ -14,6 +14,7 @@ use Rattle.algebra.proofs.Prime.{prime-three}
 use Rattle.algebra.specs.Prime.{odd-prime}
 use Rattle.refusal.specs.declared.Refusal.{Refusal}
 use Rattle.refusal.specs.declared.Refusal.the-variants.{Cut, Tail, Count, Prime, Shape, Strip}
+use Rattle.stripe.proofs.Laws.{shape-is}
 use Rattle.stripe.proofs.Readings.{sections-read, whole}
 use Rattle.stripe.specs.Layout.{data-count-at, data-from, parity-count-at, parity-from, image-length}
 use Rattle.stripe.specs.Params.{admitted-prime, admitted-shape, admitted-strip, checkedOf, Admitted}
@@ -27,17 +28,17 @@ use Rattle.stripe.specs.declared.Reading.the-variants.{Stripe, Refused a
 -- ---- sound parameters
 
 shown : (p k r b : ℕ) → T (admitted-prime p) → T (admitted-shape p k r) → T (admitted-strip b) → Admitted (record { p = p; k = k; r = r; b = b })
-unfolding admitted-prime admitted-shape admitted-strip
+unfolding admitted-prime admitted-strip
 shown p k r b x y z =
     let o = and-left (odd-prime p) _ x in
-    let n = and-right (leb 1 k) _ y in
+    let n = shape-is p k r y in
     record {
       prime = o;
       p-low = prime-three p o;
       p-high = leb→le p 61 (and-right (odd-prime p) _ x);
-      k-low = leb→le 1 k (and-left (leb 1 k) _ y);
-      r-low = leb→le 1 r (and-left (leb 1 r) _ n);
-      fits = leb→le (k + r) p (and-right (leb 1 r) _ n);
+      k-low = n .k-low;
+      r-low = n .r-low;
+      fits = n .fits;
       b-low = leb→le 1 b (and-left (leb 1 b) _ z);
       b-high = leb→le b 512 (and-right (leb 1 b) _ z);
     }
@@ -113,7 +114,7 @@ read-image s q w e f =
 
 pub image-read : (s : List ℕ) (q : Params) → Image s q → Stripe q ≡ readOf s
 image-read s q i =
-    sections-read s (omega arith) (u16 s 0) refl (i .four) (omega arith) (Sound q) (rw (i .p-at, i .k-at, i .r-at, i .b-at) (admitted-checked q (i .admitted))) q (Stripe q) refl
+    sections-read s (u16 s 0) refl (i .four) (omega arith) (Sound q) (rw (i .p-at, i .k-at, i .r-at, i .b-at) (admitted-checked q (i .admitted))) q (Stripe q) refl
     (whole s q (image-length q) refl (omega arith) (omega arith) (u16 s 10) refl (i .k-first)
     (u16 s (data-count-at q)) (data-count-at q) refl refl (i .k-again) (u16 s (parity-count-at q)) (parity-count-at q) refl refl (i .r-there))
 

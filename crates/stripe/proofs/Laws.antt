@@ -1,4 +1,4 @@
--- What the tests of `admits` and `checked` show of their definitions.
+-- What the tests of the parameters show of their definitions.
 -- Assumes nothing.
 use Prim.Native.Nat.{ℕ, _+_, _%_, _<_, _≤_}
 use mathlib.Core.Bool.{Bool, true, false, not, _&&_}
@@ -52,12 +52,13 @@ undivided p d h l g u =
 
 -- ---- the ways out of `admits_shape` and `admits_strip`
 
-pub record Shape-is (p k r : ℕ) : Type 0 where
+-- "k at least 1, r at least 1, k+r at most p"
+pub record Shaped (p k r : ℕ) : Type 0 where
   pub k-low : 1 ≤ k
   pub r-low : 1 ≤ r
   pub fits : k + r ≤ p
 
-pub shape-is : (p k r : ℕ) → T (admitted-shape p k r) → Shape-is p k r
+pub shape-is : (p k r : ℕ) → T (admitted-shape p k r) → Shaped p k r
 unfolding admitted-shape
 shape-is p k r t =
     let u = and-right (leb 1 k) (leb 1 r && leb (k + r) p) t in

@@ -11,16 +11,16 @@ use Rattle.laws.specs.Part.{Clear}
 use Rattle.stripe.specs.Layout.{rows, column-length, revision-at, data-count-at, data-from, data-at, strip-at, parity-count-at, parity-from, parity-at, parity-strip-at, image-length}
 use Rattle.stripe.specs.Params.{Admitted}
 use Rattle.stripe.specs.declared.Params.{Params}
-use Rattle.stripe.specs.declared.Reading.the-variants.{Refused as Unread}
 
--- "Length L": at most 1874176
+-- at most 60 strips of 512 bytes
 pub column-small : (q : Params) → Admitted q → column-length q ≤ 30720
 column-small q a = mul-le-mul {n₁ = rows q} {m₁ = q .b} {n₂ = 60} {m₂ = 512} (omega arith) (a .b-high)
 
--- n columns, where a call gave the length c of one
+-- at most 61 columns, where c is the length that a call gave
 pub columns-small : (q : Params) (n c : ℕ) → Admitted q → n ≤ q .k + q .r → c ≤ 30720 → n * c ≤ 1873920
 columns-small q n c a h l = mul-le-mul {n₁ = n} {m₁ = c} {n₂ = 61} {m₂ = 30720} (omega arith) l
 
+-- "Length L": at most 1874176
 pub image-small : (q : Params) → Admitted q → image-length q ≤ 2000000
 image-small q a = omega (arith, columns-small q (q .k + q .r) (column-length q) a (omega arith) (column-small q a))
 
@@ -47,10 +47,10 @@ strip-in q i t h l = omega (arith, data-column-in q i h, row-in t (rows q) (q .b
 pub strip-from : (q : Params) (i t : ℕ) → data-from q ≤ strip-at q i t
 strip-from q i t = omega arith
 
-pub data-in : (q : Params) → parity-from q ≤ image-length q
-data-in q = omega arith
-
 -- ---- parity
+
+pub parity-in : (q : Params) → parity-from q ≤ image-length q
+parity-in q = omega arith
 
 pub parity-end : (q : Params) → parity-from q + q .r * column-length q ≡ image-length q
 parity-end q = omega arith
@@ -63,6 +63,14 @@ parity-strip-in q j t h l = omega (arith, parity-column-in q j h, row-in t (rows
 
 pub parity-strip-from : (q : Params) (j t : ℕ) → parity-from q ≤ parity-strip-at q j t
 parity-strip-from q j t = omega arith
+
+-- ---- a strip ends below two million
+
+pub strip-small : (q : Params) (i t : ℕ) → Admitted q → i < q .k → t < rows q → strip-at q i t + q .b ≤ 2000000
+strip-small q i t a h l = omega (arith, strip-in q i t h l, parity-in q, image-small q a)
+
+pub parity-strip-small : (q : Params) (j t : ℕ) → Admitted q → j < q .r → t < rows q → parity-strip-at q j t + q .b ≤ 2000000
+parity-strip-small q j t a h l = omega (arith, parity-strip-in q j t h l, image-small q a)
 
 -- ---- two different strips
 

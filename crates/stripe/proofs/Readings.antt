@@ -83,20 +83,20 @@ module _ (s : List ℕ) where
   unfolding readOf
   none h = simp (lt-ltb (length s) 2 h)
 
-  module _ (l : 2 ≤ length s) (x : ℕ) (hx : x ≡ u16 s 0) where
-    pub count-1 : (x ≡ 4 → ⊥) → Unread Count ≡ readOf s
+  module _ (x : ℕ) (hx : x ≡ u16 s 0) where
+    pub count-1 : 2 ≤ length s → (x ≡ 4 → ⊥) → Unread Count ≡ readOf s
     unfolding readOf
-    count-1 h = simp (le-ltb (length s) 2 l, is-not x (u16 s 0) 4 hx h)
+    count-1 l h = simp (le-ltb (length s) 2 l, is-not x (u16 s 0) 4 hx h)
 
     module _ (four : x ≡ 4) where
-      pub short : length s < 10 → Unread Cut ≡ readOf s
+      pub short : 2 ≤ length s → length s < 10 → Unread Cut ≡ readOf s
       unfolding readOf
-      short h = simp (le-ltb (length s) 2 l, is x (u16 s 0) 4 hx four, lt-ltb (length s) 10 h)
+      short l h = simp (le-ltb (length s) 2 l, is x (u16 s 0) 4 hx four, lt-ltb (length s) 10 h)
 
       module _ (m : 10 ≤ length s) (v : Checked) (e : v ≡ checkedOf (u16 s 2) (u16 s 4) (u16 s 6) (u16 s 8)) where
         given : readOf s ≡ withParams s v
         unfolding readOf
-        given = simp (le-ltb (length s) 2 l, is x (u16 s 0) 4 hx four, le-ltb (length s) 10 m) (ap (withParams s) (sym e))
+        given = simp (le-ltb (length s) 2 (omega arith), is x (u16 s 0) 4 hx four, le-ltb (length s) 10 m) (ap (withParams s) (sym e))
 
         pub refused-read : (n : Refusal) → v ≡ Refused n → Unread n ≡ readOf s
         unfolding withParams

@@ -1,11 +1,11 @@
 // The parameters of a stripe, where its parts lie in an image, and the reading of an image.
 use refusal::Refusal;
 ghost use mathlib.Core.Path.{_≡_};
-ghost use Prim.Native.Nat.{_+_, _*_, _≤_};
+ghost use Prim.Native.Nat.{_+_, _*_, _<_, _≤_};
 ghost use lib.ListN.{length};
 ghost use Rattle.laws.specs.Number.{u16, u32, put16, put32};
 ghost use Rattle.stripe.specs.Params.{admitted-prime, admitted-shape, admitted-strip, checkedOf, Admitted};
-ghost use Rattle.stripe.specs.Layout.{column-length, revision-at, data-at, parity-at, image-length};
+ghost use Rattle.stripe.specs.Layout.{rows, column-length, revision-at, data-at, strip-at, parity-at, parity-strip-at, image-length};
 ghost use Rattle.stripe.specs.Reading.{sectionsOf, readOf, refusal-given};
 
 // The parameters p, k, r and B of a stripe.
@@ -145,12 +145,28 @@ impl Params {
         14 + 4 * self.k + self.columns(i)
     }
 
+    // Where strip t of data column i starts.
+    pub fn strip_at(self, i: usize, t: usize) -> usize
+        requires { ⌜ Admitted self × (i < self .k) × (t < rows self) ⌝ }
+        ensures { λ n. ⌜ (n ≡ strip-at self i t) × (n ≤ 2000000) ⌝ }
+    {
+        self.data_at(i) + t * self.b
+    }
+
     // Where parity column j starts; for j = r, where the image ends.
     pub fn parity_at(self, j: usize) -> usize
         requires { ⌜ Admitted self × (j ≤ self .r) ⌝ }
         ensures { λ n. ⌜ (n ≡ parity-at self j) × (n ≤ 2000000) ⌝ }
     {
         16 + 4 * self.k + self.columns(self.k + j)
+    }
+
+    // Where strip t of parity column j starts.
+    pub fn parity_strip_at(self, j: usize, t: usize) -> usize
+        requires { ⌜ Admitted self × (j < self .r) × (t < rows self) ⌝ }
+        ensures { λ n. ⌜ (n ≡ parity-strip-at self j t) × (n ≤ 2000000) ⌝ }
+    {
+        self.parity_at(j) + t * self.b
     }
 
     // The length L of an image.

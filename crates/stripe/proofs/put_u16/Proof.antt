@@ -1,37 +1,29 @@
+-- `stripe::put_u16` meets its contract. Assumes nothing.
 use native.Mathlib.Omega.{arith}
 use lib.ListN.{length-set}
 use Rattle.laws.proofs.Number.{put16-stores}
 use borrow.Author.Needs.{needs}
 use Rattle.stripe.proofs.put_u16.Statement.{statement}
 use Rattle.stripe.proofs.put_u16.Tie as tie
-use Rattle.stripe.proofs.put_u16.Reads as reads
-use Rattle.stripe.proofs.put_u16.Lts as lts
 
--- src/lib.rt:174:13
 cast-s : tie.Need-cast-s
 cast-s c = search needs
 
--- src/lib.rt:174:5
 slice-write-s : tie.Need-slice-write-s
 slice-write-s c = search needs
 
--- src/lib.rt:175:17
 cast-s-2 : tie.Need-cast-s-2
 cast-s-2 c = search needs
 
--- src/lib.rt:175:7
 add-s : tie.Need-add-s
 add-s c = search needs
 
--- src/lib.rt:175:5
 slice-write-s-2 : tie.Need-slice-write-s-2
 slice-write-s-2 c = simp length-set (omega arith)
 
--- src/lib.rt:170:1
 same-length : tie.Need-same-length
 same-length c = search needs
 
--- src/lib.rt:170:1
 returns : tie.Need-returns
 returns c = search put16-stores
 

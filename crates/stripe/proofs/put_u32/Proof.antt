@@ -1,61 +1,47 @@
+-- `stripe::put_u32` meets its contract. Assumes nothing.
 use native.Mathlib.Omega.{arith}
 use lib.ListN.{length-set}
 use Rattle.laws.proofs.Number.{put32-stores}
 use borrow.Author.Needs.{needs}
 use Rattle.stripe.proofs.put_u32.Statement.{statement}
 use Rattle.stripe.proofs.put_u32.Tie as tie
-use Rattle.stripe.proofs.put_u32.Reads as reads
-use Rattle.stripe.proofs.put_u32.Lts as lts
 
--- src/lib.rt:183:13
 cast-s : tie.Need-cast-s
 cast-s c = search needs
 
--- src/lib.rt:183:5
 slice-write-s : tie.Need-slice-write-s
 slice-write-s c = search needs
 
--- src/lib.rt:184:17
 cast-s-2 : tie.Need-cast-s-2
 cast-s-2 c = search needs
 
--- src/lib.rt:184:7
 add-s : tie.Need-add-s
 add-s c = search needs
 
--- src/lib.rt:184:5
 slice-write-s-2 : tie.Need-slice-write-s-2
 slice-write-s-2 c = simp length-set (omega arith)
 
--- src/lib.rt:185:17
 cast-s-3 : tie.Need-cast-s-3
 cast-s-3 c = search needs
 
--- src/lib.rt:185:7
 add-s-2 : tie.Need-add-s-2
 add-s-2 c = search needs
 
--- src/lib.rt:185:5
 slice-write-s-3 : tie.Need-slice-write-s-3
 slice-write-s-3 c = simp length-set (omega arith)
 
--- src/lib.rt:186:17
 cast-s-4 : tie.Need-cast-s-4
 cast-s-4 c = search needs
 
--- src/lib.rt:186:7
 add-s-3 : tie.Need-add-s-3
 add-s-3 c = search needs
 
--- src/lib.rt:186:5
 slice-write-s-4 : tie.Need-slice-write-s-4
 slice-write-s-4 c = simp length-set (omega arith)
 
--- src/lib.rt:179:1
 same-length : tie.Need-same-length
 same-length c = search needs
 
--- src/lib.rt:179:1
 returns : tie.Need-returns
 returns c = search put32-stores
 

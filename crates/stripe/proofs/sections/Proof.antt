@@ -1,60 +1,43 @@
+-- `stripe::sections` meets its contract. Assumes nothing.
 use native.Mathlib.Omega.{arith}
 use Rattle.stripe.proofs.Readings.{cut, tail, count-2, count-3, count-4, whole}
 use borrow.Author.Needs.{needs}
 use Rattle.stripe.proofs.sections.Statement.{statement}
 use Rattle.stripe.proofs.sections.Tie as tie
-use Rattle.stripe.proofs.sections.Reads as reads
-use Rattle.stripe.proofs.sections.Lts as lts
-use Rattle.stripe.proofs.Params.data_at.Reads as data-at-reads
-use Rattle.stripe.proofs.Params.image_length.Reads as image-length-reads
-use Rattle.stripe.proofs.Params.revision_at.Reads as revision-at-reads
-use Rattle.stripe.proofs.number.Reads as number-reads
 
--- src/lib.rt:203:9
 image-length-requires : tie.Need-image-length-requires
 image-length-requires c κs = search needs
 
--- src/lib.rt:205:9
 returns : tie.Need-returns
 returns c = search cut
 
--- src/lib.rt:208:9
 returns-2 : tie.Need-returns-2
 returns-2 c = search tail
 
--- src/lib.rt:210:8
 number-requires : tie.Need-number-requires
 number-requires c κs = search needs
 
--- src/lib.rt:211:9
 returns-3 : tie.Need-returns-3
 returns-3 c = search count-2
 
--- src/lib.rt:213:22
 revision-at-requires : tie.Need-revision-at-requires
 revision-at-requires c κs = search needs
 
--- src/lib.rt:213:8
 number-requires-2 : tie.Need-number-requires-2
 number-requires-2 c κs = search needs
 
--- src/lib.rt:214:9
 returns-4 : tie.Need-returns-4
 returns-4 c = search count-3
 
--- src/lib.rt:216:22
 data-at-requires : tie.Need-data-at-requires
 data-at-requires c κs = search needs
 
--- src/lib.rt:216:8
 number-requires-3 : tie.Need-number-requires-3
 number-requires-3 c κs = search needs
 
--- src/lib.rt:217:9
 returns-5 : tie.Need-returns-5
 returns-5 c = search count-4
 
--- src/lib.rt:198:1
 returns-6 : tie.Need-returns-6
 returns-6 c =
     let third = c .before .before .before in

@@ -1,27 +1,21 @@
+-- `stripe::Params::admits_shape` meets its contract. Assumes nothing.
 use native.Mathlib.Omega.{arith}
 use Rattle.stripe.proofs.Laws.{no-shape, shape}
 use Rattle.stripe.proofs.Params.admits_shape.Statement.{statement}
 use Rattle.stripe.proofs.Params.admits_shape.Tie as tie
-use Rattle.stripe.proofs.Params.admits_shape.Reads as reads
-use Rattle.stripe.proofs.Params.admits_shape.Lts as lts
 
--- src/lib.rt:74:13
 returns : tie.Need-returns
 returns c = no-shape _ _ _ (λ f g l. omega arith)
 
--- src/lib.rt:77:13
 returns-2 : tie.Need-returns-2
 returns-2 c = no-shape _ _ _ (λ f g l. omega arith)
 
--- src/lib.rt:80:13
 returns-3 : tie.Need-returns-3
 returns-3 c = no-shape _ _ _ (λ f g l. omega arith)
 
--- src/lib.rt:83:13
 returns-4 : tie.Need-returns-4
 returns-4 c = no-shape _ _ _ (λ f g l. omega arith)
 
--- src/lib.rt:70:5
 returns-5 : tie.Need-returns-5
 returns-5 c = shape _ _ _ (omega arith) (omega arith) (omega arith)
 

@@ -1,19 +1,15 @@
+-- `stripe::Params::admits_strip` meets its contract. Assumes nothing.
 use native.Mathlib.Omega.{arith}
 use Rattle.stripe.proofs.Laws.{no-strip, strip}
 use Rattle.stripe.proofs.Params.admits_strip.Statement.{statement}
 use Rattle.stripe.proofs.Params.admits_strip.Tie as tie
-use Rattle.stripe.proofs.Params.admits_strip.Reads as reads
-use Rattle.stripe.proofs.Params.admits_strip.Lts as lts
 
--- src/lib.rt:93:13
 returns : tie.Need-returns
 returns c = no-strip _ (λ f l. omega arith)
 
--- src/lib.rt:96:13
 returns-2 : tie.Need-returns-2
 returns-2 c = no-strip _ (λ f l. omega arith)
 
--- src/lib.rt:89:5
 returns-3 : tie.Need-returns-3
 returns-3 c = strip _ (omega arith) (omega arith)
 

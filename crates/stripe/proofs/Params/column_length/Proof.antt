@@ -1,3 +1,4 @@
+-- `stripe::Params::column_length` meets its contract. Assumes nothing.
 use Prim.Native.Nat.{_≤_}
 use mathlib.Core.Path.{refl}
 use native.Mathlib.Omega.{arith}
@@ -6,18 +7,13 @@ use Rattle.stripe.proofs.Places.{column-small}
 use borrow.Author.Needs.{needs}
 use Rattle.stripe.proofs.Params.column_length.Statement.{statement}
 use Rattle.stripe.proofs.Params.column_length.Tie as tie
-use Rattle.stripe.proofs.Params.column_length.Reads as reads
-use Rattle.stripe.proofs.Params.column_length.Lts as lts
 
--- src/lib.rt:102:10
 sub-result : tie.Need-sub-result
 sub-result c = search needs
 
--- src/lib.rt:102:9
 mul-result : tie.Need-mul-result
 mul-result c = let h : column-length (c .before .before .args .self) ≤ 30720 = search column-small in omega arith
 
--- src/lib.rt:98:5
 returns : tie.Need-returns
 returns c = (refl, search column-small)
 

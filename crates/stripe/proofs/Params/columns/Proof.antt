@@ -1,3 +1,4 @@
+-- `stripe::Params::columns` meets its contract. Assumes nothing.
 use Prim.Native.Nat.{ℕ, _*_, _≤_}
 use mathlib.Core.Path.{ap}
 use native.Mathlib.Omega.{arith}
@@ -5,19 +6,13 @@ use Rattle.stripe.proofs.Places.{columns-small}
 use borrow.Author.Needs.{needs}
 use Rattle.stripe.proofs.Params.columns.Statement.{statement}
 use Rattle.stripe.proofs.Params.columns.Tie as tie
-use Rattle.stripe.proofs.Params.columns.Reads as reads
-use Rattle.stripe.proofs.Params.columns.Lts as lts
-use Rattle.stripe.proofs.Params.column_length.Reads as column-length-reads
 
--- src/lib.rt:110:13
 column-length-requires : tie.Need-column-length-requires
 column-length-requires c κs = search needs
 
--- src/lib.rt:110:9
 mul-result : tie.Need-mul-result
 mul-result c = let h : c .before .args .n * c .column-length .result ≤ 1873920 = search columns-small in omega arith
 
--- src/lib.rt:106:5
 returns : tie.Need-returns
 returns c = (ap (λ (x : ℕ). c .before .args .n * x) (c .column-length .ensures .0), search columns-small)
 

@@ -1,0 +1,4 @@
+pub mod Lists
+pub mod Pass
+pub mod Matrix
+pub mod Present
