@@ -5,3 +5,4 @@ pub mod Sum
 pub mod Part
 pub mod Patch
 pub mod Number
+pub mod Left

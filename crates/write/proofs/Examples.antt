@@ -1,0 +1,81 @@
+-- P12 and P13 of document 01, and the ends of STALE and AHEAD, by computation.
+-- Assumes nothing.
+use Prim.Native.Nat.{ℕ}
+use mathlib.Core.List.{_∷_, [], List}
+use mathlib.Core.Path.{_≡_, refl}
+use Rattle.laws.specs.Bit.{weight, bit, pack}
+use Rattle.laws.specs.Choose.{below}
+use Rattle.laws.specs.Number.{put32}
+use Rattle.laws.specs.Part.{put, tab}
+use Rattle.laws.specs.Patch.{patch}
+use Rattle.laws.specs.Sum.{total, sum, pick}
+use Rattle.laws.specs.Xor.{_⊕_}
+use Rattle.algebra.specs.Divide.{quot, inv, evens, turn, gap}
+use Rattle.algebra.specs.Lane.{D, act}
+use Rattle.algebra.specs.Prime.{odd-prime}
+use Rattle.algebra.specs.Word.{overOf, timesOf, laneOf}
+use Rattle.refusal.specs.declared.Refusal.the-variants.{Stale, Ahead}
+use Rattle.stripe.specs.Examples.{example-image}
+use Rattle.stripe.specs.Params.{checkedOf, admitted-prime, admitted-shape, admitted-strip}
+use Rattle.stripe.specs.Reading.{readOf, withParams, sectionsOf}
+use Rattle.parity.specs.Touches.{touches, touch-word, count}
+use Rattle.write.specs.Revision.{distance, judged, renewed}
+use Rattle.write.specs.Written.{writeOf, write-read, write-sound, write-judged, written, moved, difference}
+use Rattle.write.specs.declared.Age.the-variants.{Current, Older, Newer}
+use Rattle.write.specs.declared.Written.the-variants.{Accepted, Refused}
+
+-- "revision 4294967295 with that base: new revision 0"
+pub last-current : judged 4294967295 4294967295 ≡ Current
+unfolding judged distance
+last-current = refl
+
+pub last-renewed : renewed 4294967295 ≡ 0
+unfolding renewed
+last-renewed = refl
+
+-- "revision 0, base 4294967295: STALE"
+pub wrapped-older : judged 0 4294967295 ≡ Older
+unfolding judged distance
+wrapped-older = refl
+
+-- "the same with base 6: STALE", "base 8: AHEAD"
+pub six-older : judged 7 6 ≡ Older
+unfolding judged distance
+six-older = refl
+
+pub eight-newer : judged 7 8 ≡ Newer
+unfolding judged distance
+eight-newer = refl
+
+-- "1 to 2^31 is STALE; above is AHEAD"
+pub half-older : judged 2147483648 0 ≡ Older
+unfolding judged distance
+half-older = refl
+
+pub past-half-newer : judged 2147483649 0 ≡ Newer
+unfolding judged distance
+past-half-newer = refl
+
+-- ---- whole writes to the image I
+
+-- I with revision 8 of column 1, strip 00 at its row 1, "parity as in P4"
+abbrev ninth-image : List ℕ
+ninth-image =
+    4 ∷ 0 ∷ 5 ∷ 0 ∷ 2 ∷ 0 ∷ 2 ∷ 0 ∷ 1 ∷ 0 ∷
+    2 ∷ 0 ∷ 0 ∷ 0 ∷ 0 ∷ 0 ∷ 8 ∷ 0 ∷ 0 ∷ 0 ∷
+    2 ∷ 0 ∷ 1 ∷ 0 ∷ 0 ∷ 0 ∷ 0 ∷ 0 ∷ 0 ∷ 0 ∷
+    2 ∷ 0 ∷ 1 ∷ 0 ∷ 1 ∷ 0 ∷ 1 ∷ 1 ∷ 1 ∷ 0 ∷ []
+
+-- "I, column 1, row 1, base 7, strip 00: revision 8, count 6, parity as in P4"
+pub ninth : writeOf example-image 1 1 7 (0 ∷ []) ≡ record { answer = Accepted 8 6; image = ninth-image }
+unfolding writeOf write-read write-sound write-judged written moved difference readOf withParams sectionsOf checkedOf admitted-prime admitted-shape admitted-strip odd-prime below judged distance renewed touches touch-word count total weight bit pack overOf timesOf laneOf quot turn gap D act sum pick _⊕_ put patch tab put32 inv evens
+ninth = refl
+
+-- "the same with base 6: STALE", "base 8: AHEAD"
+pub tenth : writeOf example-image 1 1 6 (0 ∷ []) ≡ record { answer = Refused Stale; image = example-image }
+unfolding writeOf write-read write-sound write-judged readOf withParams sectionsOf checkedOf admitted-prime admitted-shape admitted-strip odd-prime below judged distance
+tenth = refl
+
+pub eleventh : writeOf example-image 1 1 8 (0 ∷ []) ≡ record { answer = Refused Ahead; image = example-image }
+unfolding writeOf write-read write-sound write-judged readOf withParams sectionsOf checkedOf admitted-prime admitted-shape admitted-strip odd-prime below judged distance
+eleventh = refl

@@ -1,0 +1,3 @@
+pub mod Revision
+pub mod Written
+pub mod Steps
