@@ -1,0 +1,4 @@
+// The report of the image on standard input.
+fn main() {
+    reporting::report(0);
+}
