@@ -2,4 +2,9 @@ pub mod Cover
 pub mod Writes
 pub mod Demand3
 pub mod Changed
+pub mod Demand2
+pub mod Solved
+pub mod Shown
+pub mod Determined
 pub mod Useless
+pub mod Examples

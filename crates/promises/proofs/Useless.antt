@@ -4,15 +4,16 @@ use Prim.Native.Nat.{ℕ}
 use mathlib.Core.List.{List, [], _∷_}
 use mathlib.Core.Path.{_≡_, ap, _∙_, sym, refl}
 use native.Mathlib.Omega.{arith}
-use lib.ListN.{getD}
-use Rattle.laws.specs.Left.{Left, Leaves}
+use lib.ListN.{getD, replicate}
 use Rattle.laws.specs.Bit.{weight, bit, pack}
 use Rattle.laws.specs.Choose.{below}
+use Rattle.laws.specs.Left.{Left, Leaves}
 use Rattle.laws.specs.Number.{put32}
 use Rattle.laws.specs.Part.{put, tab}
 use Rattle.laws.specs.Patch.{patch}
 use Rattle.laws.specs.Sum.{total, sum, pick}
 use Rattle.laws.specs.Xor.{_⊕_}
+use Rattle.algebra.specs.Column.{lane, coefficient}
 use Rattle.algebra.specs.Divide.{quot, turn, gap, inv, evens}
 use Rattle.algebra.specs.Lane.{D, act}
 use Rattle.algebra.specs.Prime.{odd-prime}
@@ -22,12 +23,16 @@ use Rattle.refusal.specs.declared.Refusal.the-variants.{Stale}
 use Rattle.stripe.specs.Examples.{example-image}
 use Rattle.stripe.specs.Params.{checkedOf, admitted-prime, admitted-shape, admitted-strip}
 use Rattle.stripe.specs.Reading.{readOf, withParams, sectionsOf}
+use Rattle.parity.specs.Parity.{due}
 use Rattle.parity.specs.Touches.{touches, touch-word, count}
 use Rattle.write.proofs.Examples.{ninth, tenth}
 use Rattle.write.specs.Revision.{judged, distance, renewed}
 use Rattle.write.specs.Written.{writeOf, write-read, write-sound, write-judged, written, moved, difference}
+use Rattle.parity.specs.declared.Outcome.{Outcome}
 use Rattle.write.specs.declared.Written.{Written}
 use Rattle.write.specs.declared.Written.the-variants.{Accepted, Refused}
+use Rattle.rebuild.specs.Answer.{rebuildOf, rebuild-read, pattern-fits, few-lost}
+use Rattle.rebuild.specs.Lost.{rebuilt, whole-data, whole-parity, recovered, consulted, lost-exponents, present-exponents, consulted-lanes, present-lanes}
 use Rattle.store.specs.Image.{image-last}
 use Rattle.store.specs.Store.{Write, Entry}
 use Rattle.promises.specs.Demand3.{last-image, left}
@@ -75,3 +80,8 @@ obeys-first-only e =
 -- one that invents the count
 pub invents-count : (n c : ℕ) (u : List ℕ) → Leaves (writeOf example-image 1 1 7 (0 ∷ [])) (Accepted n c) u → c ≡ 6
 invents-count n c u h = let a : Accepted n c ≡ Accepted 8 6 = h .answered ∙ answer-nine in cc
+
+-- a rebuild that does nothing: I with its data columns cleared comes back, so byte 22 is 1 again
+pub rebuilds-nothing : (x : Outcome) → Leaves (rebuildOf (put example-image 22 (replicate 8 0)) 3) x (put example-image 22 (replicate 8 0)) → ⊥
+unfolding put rebuildOf rebuild-read pattern-fits few-lost rebuilt patch tab whole-data whole-parity recovered consulted lost-exponents present-exponents consulted-lanes present-lanes due lane coefficient D act quot turn gap inv evens bit weight sum pick _⊕_ readOf withParams sectionsOf checkedOf admitted-prime admitted-shape admitted-strip odd-prime below
+rebuilds-nothing x h = let z : _≡_ {A = ℕ} 0 1 = ap (λ (l : List ℕ). getD l 22 0) (h .left) in omega arith

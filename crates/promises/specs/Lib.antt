@@ -1,2 +1,3 @@
 pub mod Demand3
 pub mod Changed
+pub mod Table

@@ -1,0 +1,104 @@
+-- "From a right stripe any set of at most r lost columns is rebuilt to the byte, without use of what the lost columns held. Larger sets are refused."
+-- Assumes nothing.
+use Prim.Native.Nat.{ℕ, _+_, _<_, zero, suc, _^_, _≤_}
+use mathlib.Core.Bool.{Bool, true, false}
+use mathlib.Core.List.{List}
+use mathlib.Core.Path.{_≡_, sym, _∙_, refl, ap}
+use native.Mathlib.Omega.{arith}
+use lib.Dec.{T}
+use lib.ListN.{length, getD}
+use lib.Pow.{pow-pos}
+use borrow.Author.Tests.{lt-leb, lt-ltb}
+use Rattle.laws.proofs.Bit.{bit-zero}
+use Rattle.laws.proofs.Choose.{T-true}
+use Rattle.laws.specs.Bit.{weight}
+use Rattle.laws.specs.Choose.{choose}
+use Rattle.refusal.specs.declared.Refusal.the-variants.{Many}
+use Rattle.stripe.proofs.Frame.{image-same, image-read}
+use Rattle.stripe.specs.Layout.{rows, data-byte, parity-byte}
+use Rattle.stripe.specs.Reading.{Image}
+use Rattle.stripe.specs.declared.Params.{Params}
+use Rattle.parity.specs.Parity.{due, Right}
+use Rattle.parity.specs.declared.Outcome.the-variants.{Done, Refused}
+use Rattle.rebuild.proofs.Cells.{is-rebuilt, rebuilt-length, rebuilt-front, rebuilt-count}
+use Rattle.rebuild.proofs.Count.{length-consulted, rising-at, consulted-rising, weight-none, weight-mark, is-few}
+use Rattle.rebuild.proofs.Independent.{rebuilt-agrees, agrees-image}
+use Rattle.promises.proofs.Solved.{whole-only}
+use Rattle.rebuild.proofs.Whole.{due-ext}
+use Rattle.rebuild.specs.Agrees.{AgreesOutside}
+use Rattle.rebuild.specs.Answer.{few-lost, pattern-fits, rebuildOf, rebuild-read}
+use Rattle.rebuild.specs.Lost.{is-lost, consulted, whole-data, whole-parity, rebuilt}
+
+-- ---- a right image is its own rebuilding
+
+module _ (s : List ℕ) (q : Params) (m : ℕ) (i : Image s q) (r : Right s q) (f : T (few-lost q m)) where
+  pub whole-data-right : (c t x : ℕ) → c < q .k → t < rows q → x < q .b → whole-data s q m c t x ≡ data-byte s q c t x
+  whole-data-right c t x h k l =
+      whole-only s q m (i .admitted) f (data-byte s q) x (λ c t h k e. refl)
+      (λ v t h k.
+      let g : v < length (consulted q m) = omega (arith, length-consulted q m f) in
+      sym (r .parity-due (getD (consulted q m) v 0) t x (rising-at 0 (q .r) (consulted q m) (consulted-rising q m) v g .1) k l))
+      c t h k
+
+  pub whole-parity-right : (j t x : ℕ) → j < q .r → t < rows q → x < q .b → whole-parity s q m j t x ≡ parity-byte s q j t x
+  unfolding whole-parity
+  whole-parity-right j t x h k l = go (is-lost m (q .k + j))
+    where
+      go : (b : Bool) → choose b (due q (whole-data s q m) j t x) (parity-byte s q j t x) ≡ parity-byte s q j t x
+      go true = due-ext q (whole-data s q m) (data-byte s q) j t x (λ c u g n. whole-data-right c u x g n l) ∙ sym (r .parity-due j t x h k l)
+      go false = refl
+
+  pub rebuilt-self : rebuilt s q m ≡ s
+  rebuilt-self =
+      sym (is-rebuilt s q m (i .len) s (i .admitted) refl (λ o h. refl) (λ o h k. refl)
+      (λ c t x h k l. sym (whole-data-right c t x h k l)) (λ j t x h k l. sym (whole-parity-right j t x h k l)))
+
+-- "From a right stripe any set of at most r lost columns is rebuilt to the byte": u has anything in the lost columns
+pub rebuilt-right : (s u : List ℕ) (q : Params) (m : ℕ) → Image s q → Right s q → T (few-lost q m) → AgreesOutside s u q m → rebuilt u q m ≡ s
+rebuilt-right s u q m i r f g = sym (rebuilt-agrees s u q m g i) ∙ rebuilt-self s q m i r f
+
+-- ---- any image
+
+pub rebuilt-image : (s : List ℕ) (q : Params) (m : ℕ) → Image s q → Image (rebuilt s q m) q
+rebuilt-image s q m i =
+    image-same s (rebuilt s q m) q i (rebuilt-length s q m (i .len))
+    (λ o h. rebuilt-front s q m (i .len) o (omega arith)) (λ o h k. rebuilt-front s q m (i .len) o k) (rebuilt-count s q m (i .len))
+
+none-lost : (n : ℕ) → is-lost 0 n ≡ false
+none-lost n = rw bit-zero
+
+-- "The empty pattern .. changes nothing."
+pub rebuilt-none : (s : List ℕ) (q : Params) → Image s q → rebuilt s q 0 ≡ s
+unfolding whole-data whole-parity
+rebuilt-none s q i =
+    sym (is-rebuilt s q 0 (i .len) s (i .admitted) refl (λ o h. refl) (λ o h k. refl)
+    (λ c t x h k l. rw (none-lost c)) (λ j t x h k l. rw (none-lost (q .k + j))))
+
+-- ---- as it is answered
+
+-- "rebuilt to the byte"
+pub rebuild-restores : (s u : List ℕ) (q : Params) (m : ℕ) → Image s q → Right s q → T (pattern-fits q m) → T (few-lost q m) → AgreesOutside s u q m
+    → rebuildOf u m ≡ record { answer = Done; image = s }
+unfolding rebuildOf rebuild-read
+rebuild-restores s u q m i r p f g =
+    ap (rebuild-read u m) (sym (image-read u q (agrees-image s u q m g i)))
+    ∙ rw (T-true (pattern-fits q m) p, T-true (few-lost q m) f, rebuilt-right s u q m i r f g)
+
+-- "Larger sets are refused."
+pub rebuild-refuses : (s : List ℕ) (q : Params) (m : ℕ) → Image s q → T (pattern-fits q m) → q .r < weight m (q .k + q .r)
+    → rebuildOf s m ≡ record { answer = Refused Many; image = s }
+unfolding rebuildOf rebuild-read few-lost
+rebuild-refuses s q m i p h =
+    ap (rebuild-read s m) (sym (image-read s q i)) ∙ rw (T-true (pattern-fits q m) p, lt-leb (weight m (q .k + q .r)) (q .r) h)
+
+none-weight : (n : ℕ) → weight 0 n ≡ 0
+none-weight zero = weight-none 0
+none-weight (suc n) = weight-mark 0 n ∙ rw (none-lost n, none-weight n)
+
+-- "The empty pattern is accepted and changes nothing."
+pub rebuild-empty : (s : List ℕ) (q : Params) → Image s q → rebuildOf s 0 ≡ record { answer = Done; image = s }
+unfolding rebuildOf rebuild-read pattern-fits
+rebuild-empty s q i =
+    let f : weight 0 (q .k + q .r) ≤ q .r = omega (arith, none-weight (q .k + q .r)) in
+    ap (rebuild-read s 0) (sym (image-read s q i))
+    ∙ rw (lt-ltb 0 (2 ^ (q .k + q .r)) (pow-pos (q .k + q .r)), T-true (few-lost q 0) (is-few q 0 f), rebuilt-none s q i)

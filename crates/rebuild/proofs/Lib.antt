@@ -1,0 +1,16 @@
+pub mod Marks
+pub mod Count
+pub mod Decoded
+pub mod Ranges
+pub mod Whole
+pub mod Words
+pub mod Cells
+pub mod Independent
+pub mod Filled
+pub mod Asking
+pub mod Showing
+pub mod Collecting
+pub mod Placing
+pub mod Wording
+pub mod Filling
+pub mod Answering

@@ -1,0 +1,54 @@
+-- `rebuild::clear` meets its contract.
+-- Assumes nothing.
+use Prim.Native.Nat.{_-_, _≤_}
+use native.Mathlib.Omega.{arith}
+use Rattle.laws.specs.Patch.{Patched}
+use Rattle.laws.proofs.Patch.{patch-none}
+use Rattle.rebuild.proofs.Filling.{clear-more, clear-end}
+use Rattle.rebuild.proofs.clear.Statement.{statement}
+use Rattle.rebuild.proofs.clear.Tie as tie
+
+abbrev Inv-loop : tie.InvT-loop
+Inv-loop s₀ from n i₀ s i = (i ≤ n) × Patched s₀ s from i (λ o. 0)
+
+abbrev μ-loop : tie.MeasureT-loop
+μ-loop s₀ from n i₀ s i = n - i
+
+loop-holds : tie.Need-loop-holds Inv-loop μ-loop
+loop-holds c = (omega arith, patch-none _ _ _)
+
+add-s : tie.Need-add-s Inv-loop μ-loop
+add-s c = omega arith
+
+slice-write-s : tie.Need-slice-write-s Inv-loop μ-loop
+slice-write-s c = omega arith
+
+add-i : tie.Need-add-i Inv-loop μ-loop
+add-i c = omega arith
+
+loop-less : tie.Need-loop-less Inv-loop μ-loop
+loop-less c = omega arith
+
+loop-again : tie.Need-loop-again Inv-loop μ-loop
+loop-again c = (omega arith, search clear-more)
+
+same-length : tie.Need-same-length Inv-loop μ-loop
+same-length c = omega arith
+
+returns : tie.Need-returns Inv-loop μ-loop
+returns c = search clear-end
+
+pub clear-spec : {M : Type 1} → statement M
+clear-spec =
+    tie.close
+    (tie.spec
+    Inv-loop
+    μ-loop
+    loop-holds
+    add-s
+    slice-write-s
+    add-i
+    loop-less
+    loop-again
+    same-length
+    returns)

@@ -1,0 +1,60 @@
+-- `rebuild::rebuild_lost` meets its contract.
+-- Assumes nothing.
+use Rattle.rebuild.proofs.Answering.{lost-repaired}
+use Rattle.rebuild.proofs.Answering.{lost-prepared}
+use borrow.Author.Needs.{needs}
+use Rattle.rebuild.proofs.rebuild_lost.Statement.{statement}
+use Rattle.rebuild.proofs.rebuild_lost.Tie as tie
+
+recovery-requires : tie.Need-recovery-requires
+recovery-requires c κs = search lost-repaired
+
+places-requires : tie.Need-places-requires
+places-requires c κs = search lost-repaired
+
+blank-requires : tie.Need-blank-requires
+blank-requires c κs = search needs
+
+sub-fill-columns : tie.Need-sub-fill-columns
+sub-fill-columns c = search needs
+
+part-fill-columns-start : tie.Need-part-fill-columns-start
+part-fill-columns-start c = search needs
+
+part-fill-columns-end : tie.Need-part-fill-columns-end
+part-fill-columns-end c = search needs
+
+sub-fill-columns-2 : tie.Need-sub-fill-columns-2
+sub-fill-columns-2 c = search needs
+
+part-strip-start : tie.Need-part-strip-start
+part-strip-start c = search needs
+
+part-strip-end : tie.Need-part-strip-end
+part-strip-end c = search needs
+
+fill-columns-requires : tie.Need-fill-columns-requires
+fill-columns-requires c κs = search lost-prepared
+
+same-length : tie.Need-same-length
+same-length c = search needs
+
+returns : tie.Need-returns
+returns c = search needs
+
+pub rebuild-lost-spec : {M : Type 1} → statement M
+rebuild-lost-spec =
+    tie.close
+    (tie.spec
+    recovery-requires
+    places-requires
+    blank-requires
+    sub-fill-columns
+    part-fill-columns-start
+    part-fill-columns-end
+    sub-fill-columns-2
+    part-strip-start
+    part-strip-end
+    fill-columns-requires
+    same-length
+    returns)
