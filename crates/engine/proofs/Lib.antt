@@ -1,2 +1,3 @@
 pub mod Laws
 pub mod Masked
+pub mod Bytes

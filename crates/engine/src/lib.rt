@@ -1,8 +1,9 @@
 // The two moves on strips that every call is made of, and the rows that a word takes of a column.
 ghost use mathlib.Core.Path.{_≡_};
-ghost use Prim.Native.Nat.{_<_, _≤_};
+ghost use Prim.Native.Nat.{_+_, _<_, _≤_};
 ghost use lib.ListN.{length};
 ghost use Rattle.laws.specs.Bit.{bit};
+ghost use Rattle.laws.specs.Part.{put, tab};
 ghost use Rattle.laws.specs.Patch.{Patched};
 ghost use Rattle.engine.specs.Mask.{takesOf, maskOf};
 ghost use Rattle.engine.specs.Strips.{added, onto, gathered, taken, Strip, Added, Rows, Scattered, Columns};
@@ -105,5 +106,29 @@ pub fn take(src: &[u8], ats: &[usize], words: &[u64], q: usize, p: usize, out: &
         let rows = mask(words[m], q, p);
         gather(src, ats[m], p - 1, rows, out);
         m += 1;
+    }
+}
+
+// Sets n bytes at a place to 0.
+pub fn clear(s: &mut [u8], from: usize, n: usize)
+    requires { ⌜ from + n ≤ length (now s) ⌝ }
+    ensures { λ _. ⌜ now (s .exit) ≡ put (now (s .entry)) from (tab n (λ o. 0)) ⌝ }
+{
+    let mut i: usize = 0;
+    while i < n {
+        s[from + i] = 0;
+        i += 1;
+    }
+}
+
+// Puts the bytes of src in their place.
+pub fn copy_in(s: &mut [u8], at: usize, src: &[u8])
+    requires { ⌜ at + length (now src) ≤ length (now s) ⌝ }
+    ensures { λ _. ⌜ now (s .exit) ≡ put (now (s .entry)) at (now (src .entry)) ⌝ }
+{
+    let mut i: usize = 0;
+    while i < src.len() {
+        s[at + i] = src[i];
+        i += 1;
     }
 }

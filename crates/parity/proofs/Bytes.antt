@@ -7,33 +7,15 @@ use mathlib.Core.Logic.{_≢_}
 use mathlib.Core.Path.{_≡_, sym, ap, ap₂, _∙_, refl}
 use native.Mathlib.Omega.{arith}
 use lib.Dec.{eqb}
-use lib.ListN.{length, getD, set}
+use lib.ListN.{getD}
 use borrow.Author.Tests.{eq-eqb, ne-eqb}
 use Rattle.laws.proofs.Choose.{T-true, true-T, at-below, below-at}
-use Rattle.laws.proofs.Part.{is-put}
-use Rattle.laws.proofs.Patch.{patch-more, is-patch, patch-end}
 use Rattle.laws.specs.Choose.{below}
-use Rattle.laws.specs.Part.{tab, put}
-use Rattle.laws.specs.Patch.{Patched, patch}
 use Rattle.parity.specs.Inner.{alike}
 
 -- ---- clearing
 
-pub clear-more : (s t : List ℕ) (at i n : ℕ) → at + n ≤ length s → i < n → Patched s t at i (λ o. 0) → Patched s (set t (at + i) 0) at (i + 1) (λ o. 0)
-clear-more s t at i n h l d = patch-more s t at i (λ o. 0) 0 d (omega arith) refl
-
-pub clear-end : (s t : List ℕ) (at i n : ℕ) → at + n ≤ length s → i ≤ n → n ≤ i → Patched s t at i (λ o. 0) → t ≡ put s at (tab n (λ o. 0))
-unfolding patch
-clear-end s t at i n h l g d = is-patch s t at n (λ o. 0) h (patch-end s t at i n (λ o. 0) d l g)
-
 -- ---- copying
-
-pub copy-more : (s t src : List ℕ) (at i : ℕ) → at + length src ≤ length s → i < length src → Patched s t at i (λ o. getD src o 0)
-    → Patched s (set t (at + i) (getD src i 0)) at (i + 1) (λ o. getD src o 0)
-copy-more s t src at i h l d = patch-more s t at i (λ o. getD src o 0) (getD src i 0) d (omega arith) refl
-
-pub copy-end : (s t src : List ℕ) (at i : ℕ) → at + length src ≤ length s → i ≤ length src → length src ≤ i → Patched s t at i (λ o. getD src o 0) → t ≡ put s at src
-copy-end s t src at i h l g d = is-put t s at src h (d .len) (d .below) (λ o k. d .inner o (omega arith)) (λ o k. d .above o (omega arith))
 
 -- ---- tests
 

@@ -30,37 +30,6 @@ pub enum Checkup {
     Refused(Refusal),
 }
 
-// Room for the longest strip.
-fn blank() -> [u8; Params::LARGEST_STRIP]
-    ensures { λ x. ⌜ length x ≡ 512 ⌝ }
-{
-    [0u8; Params::LARGEST_STRIP]
-}
-
-// Sets n bytes at a place to 0.
-fn clear(s: &mut [u8], from: usize, n: usize)
-    requires { ⌜ from + n ≤ length (now s) ⌝ }
-    ensures { λ _. ⌜ now (s .exit) ≡ put (now (s .entry)) from (tab n (λ o. 0)) ⌝ }
-{
-    let mut i: usize = 0;
-    while i < n {
-        s[from + i] = 0;
-        i += 1;
-    }
-}
-
-// Puts the bytes of src in their place.
-fn copy_in(s: &mut [u8], at: usize, src: &[u8])
-    requires { ⌜ at + length (now src) ≤ length (now s) ⌝ }
-    ensures { λ _. ⌜ now (s .exit) ≡ put (now (s .entry)) at (now (src .entry)) ⌝ }
-{
-    let mut i: usize = 0;
-    while i < src.len() {
-        s[at + i] = src[i];
-        i += 1;
-    }
-}
-
 // Whether the bytes of src stand in s at a place.
 fn stands(s: &[u8], at: usize, src: &[u8]) -> bool
     requires { ⌜ at + length (now src) ≤ length (now s) ⌝ }
@@ -91,20 +60,12 @@ pub fn due_strip(src: &[u8], q: Params, j: usize, t: usize, out: &mut [u8])
     requires { ⌜ Strip-asked (now src) (now out) q j t ⌝ }
     ensures { λ _. ⌜ now (out .exit) ≡ tab (q .b) (due q (data-byte (now (src .entry)) q) j t) ⌝ }
 {
-    clear(out, 0, q.b);
+    engine::clear(out, 0, q.b);
     let mut i: usize = 0;
     while i < q.k {
         add_share(src, q, j, t, i, out);
         i += 1;
     }
-}
-
-// Where strip t of parity j stands.
-fn strip_at(q: Params, j: usize, t: usize) -> usize
-    requires { ⌜ Strip-place q j t ⌝ }
-    ensures { λ x. ⌜ x ≡ parity-strip-at q j t ⌝ }
-{
-    q.parity_at(j) + t * q.b
 }
 
 // Puts strip t of parity j in its place, worked out in `strip`.
@@ -113,7 +74,7 @@ fn refill_strip(image: &mut [u8], q: Params, j: usize, t: usize, strip: &mut [u8
     ensures { λ _. ⌜ Patched (now (image .entry)) (now (image .exit)) (parity-strip-at q j t) (q .b) (due q (data-byte (now (image .entry)) q) j t) ⌝ }
 {
     due_strip(image, q, j, t, strip);
-    copy_in(image, strip_at(q, j, t), strip);
+    engine::copy_in(image, q.parity_strip_at(j, t), strip);
 }
 
 // Puts every strip of parity j in its place.
@@ -147,7 +108,7 @@ fn refill_all(image: &mut [u8], q: Params)
     ensures { λ _. ⌜ now (image .exit) ≡ refilled (now (image .entry)) q ⌝ }
 {
     let b = q.b;
-    let mut strip = blank();
+    let mut strip = Params::blank_strip();
     refill_columns(image, q, &mut strip[0..b]);
 }
 
@@ -157,7 +118,7 @@ fn check_strip(image: &[u8], q: Params, j: usize, t: usize, strip: &mut [u8]) ->
     ensures { λ x. ⌜ x ≡ strip-right (now (image .entry)) q j t ⌝ }
 {
     due_strip(image, q, j, t, strip);
-    stands(image, strip_at(q, j, t), strip)
+    stands(image, q.parity_strip_at(j, t), strip)
 }
 
 // 0 where parity j is right, else 1.
@@ -196,7 +157,7 @@ fn wrong(image: &[u8], q: Params) -> u64
     ensures { λ x. ⌜ x ≡ wrong-parities (now (image .entry)) q ⌝ }
 {
     let b = q.b;
-    let mut strip = blank();
+    let mut strip = Params::blank_strip();
     check_columns(image, q, &mut strip[0..b])
 }
 
@@ -256,9 +217,9 @@ fn put_head(image: &mut [u8], q: Params, given: &[u8])
     ensures { λ _. ⌜ Begun (now (image .entry)) (now (image .exit)) (head q (now (given .entry))) ⌝ }
 {
     put_params(image, q);
-    clear(image, 12, 4 * q.k);
+    engine::clear(image, 12, 4 * q.k);
     put_number(image, q.revision_at(q.k), q.k);
-    copy_in(image, q.data_at(0), given);
+    engine::copy_in(image, q.data_at(0), given);
     put_number(image, q.data_at(q.k), q.r);
 }
 

@@ -374,44 +374,13 @@ fn column_words(q: Params, lost: u64, m: &[[u64; 30]; 30], n: usize) -> [u64; 60
     }
 }
 
-// Room for the longest strip.
-fn blank() -> [u8; Params::LARGEST_STRIP]
-    ensures { λ x. ⌜ length x ≡ 512 ⌝ }
-{
-    [0u8; Params::LARGEST_STRIP]
-}
-
-// Sets n bytes at a place to 0.
-fn clear(s: &mut [u8], from: usize, n: usize)
-    requires { ⌜ from + n ≤ length (now s) ⌝ }
-    ensures { λ _. ⌜ now (s .exit) ≡ put (now (s .entry)) from (tab n (λ o. 0)) ⌝ }
-{
-    let mut i: usize = 0;
-    while i < n {
-        s[from + i] = 0;
-        i += 1;
-    }
-}
-
-// Puts the bytes of src in their place.
-fn copy_in(s: &mut [u8], at: usize, src: &[u8])
-    requires { ⌜ at + length (now src) ≤ length (now s) ⌝ }
-    ensures { λ _. ⌜ now (s .exit) ≡ put (now (s .entry)) at (now (src .entry)) ⌝ }
-{
-    let mut i: usize = 0;
-    while i < src.len() {
-        s[at + i] = src[i];
-        i += 1;
-    }
-}
-
 // Row t of the sum of word · column over the columns at `ats`, into out; what out held before does not matter.
 fn lost_strip(image: &[u8], ats: &[usize], words: &[u64], t: usize, p: usize, out: &mut [u8])
     requires { ⌜ Columns p t (now image) (now ats) (now words) (now out) ⌝ }
     ensures { λ _. ⌜ now (out .exit) ≡ tab (length (now (out .entry))) (taken p (now (image .entry)) (length (now (out .entry))) t (now (ats .entry)) (now (words .entry))) ⌝ }
 {
     let b = out.len();
-    clear(out, 0, b);
+    engine::clear(out, 0, b);
     engine::take(image, ats, words, t, p, out);
 }
 
@@ -456,7 +425,7 @@ fn fill_strip(
     ensures { λ _. ⌜ Patched (now (image .entry)) (now (image .exit)) (column-strip-at q n t) (q .b) (taken (q .p) (now (image .entry)) (q .b) t (now (ats .entry)) (now (words .entry))) ⌝ }
 {
     lost_strip(image, ats, words, t, q.p, strip);
-    copy_in(image, strip_at(q, n, t), strip);
+    engine::copy_in(image, strip_at(q, n, t), strip);
 }
 
 // Puts every strip of the lost column n in its place.
@@ -529,7 +498,7 @@ fn rebuild_lost(image: &mut [u8], q: Params, lost: u64)
     let b = q.b;
     let matrix = recovery(q, lost);
     let ats = places(q, lost);
-    let mut strip = blank();
+    let mut strip = Params::blank_strip();
     fill_columns(image, q, lost, &matrix, &ats[0..k], &mut strip[0..b]);
 }
 

@@ -45,6 +45,13 @@ impl Params {
 
     pub const LARGEST_STRIP: usize = 512;
 
+    // A strip of the largest length to work in, all 0.
+    pub fn blank_strip() -> [u8; Params::LARGEST_STRIP]
+        ensures { λ x. ⌜ length x ≡ 512 ⌝ }
+    {
+        [0u8; Params::LARGEST_STRIP]
+    }
+
     // Whether p is an odd prime up to the largest.
     pub fn admits(p: usize) -> bool
         ensures { λ r. ⌜ r ≡ admitted-prime p ⌝ }

@@ -66,15 +66,6 @@ module _ (s : List ℕ) (at : ℕ) (v out u : List ℕ) (x : ℕ) (S : Strips s 
       patch-all out u (tab (length v) (differed s at v)) (differed s at v) (rw e at d) (length-tab (length v) (differed s at v) ∙ sym (S .same))
       (λ i l. sym (getD-tab (length v) (differed s at v) i (omega arith)))
 
--- ---- a strip put in place
-
-module _ (s u v : List ℕ) (at x : ℕ) (fits : at + length v ≤ length s) (d : Patched s u at x (λ o. getD v o 0)) where
-  pub replace-more : x < length v → Patched s (set u (at + x) (getD v x 0)) at (x + 1) (λ o. getD v o 0)
-  replace-more h = patch-more s u at x (λ o. getD v o 0) (getD v x 0) d (omega arith) refl
-
-  pub replace-end : x ≤ length v → length v ≤ x → u ≡ put s at v
-  replace-end h g = is-put u s at v fits (d .len) (d .below) (λ i l. d .inner i (omega arith)) (λ o l. d .above o (omega arith))
-
 -- ---- a difference added to the touched strips of each parity column
 
 pub shift-none : (s : List ℕ) (q : Params) (i t : ℕ) (d : List ℕ) → Shifted s s q i t d 0 0

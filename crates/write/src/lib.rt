@@ -65,13 +65,6 @@ pub fn touch(q: Params, i: usize, t: usize, j: usize) -> u64
     ring::times(ring::inverse(j, q.r + i, q.p), t, q.p - 1, q.p)
 }
 
-// A buffer for the longest strip.
-fn blank() -> [u8; Params::LARGEST_STRIP]
-    ensures { λ r. ⌜ length r ≡ 512 ⌝ }
-{
-    [0u8; Params::LARGEST_STRIP]
-}
-
 // Fills out with the difference between the strip at a place of the image and the new strip.
 fn differ(image: &[u8], at: usize, strip: &[u8], out: &mut [u8])
     requires { ⌜ Strips (now image) at (now strip) (now out) ⌝ }
@@ -100,14 +93,6 @@ fn move_parity(image: &mut [u8], q: Params, column: usize, row: usize, diff: &[u
     count
 }
 
-// Where data strip (column, row) starts.
-fn strip_at(q: Params, column: usize, row: usize) -> usize
-    requires { ⌜ Admitted q × (column < q .k) × (row < rows q) ⌝ }
-    ensures { λ n. ⌜ n ≡ strip-at q column row ⌝ }
-{
-    q.data_at(column) + row * q.b
-}
-
 // Adds the difference that a new strip makes to parity, by way of a lent strip; gives the count of strips added to.
 fn update_by(
     image: &mut [u8],
@@ -120,7 +105,7 @@ fn update_by(
     requires { ⌜ Target (now image) q column row (now strip) × (length (now diff) ≡ q .b) ⌝ }
     ensures { λ n. ⌜ Moved (now (image .entry)) (now (image .exit)) q column row (now (strip .entry)) n ⌝ }
 {
-    differ(image, strip_at(q, column, row), strip, diff);
+    differ(image, q.strip_at(column, row), strip, diff);
     move_parity(image, q, column, row, diff)
 }
 
@@ -130,20 +115,8 @@ fn update_parity(image: &mut [u8], q: Params, column: usize, row: usize, strip: 
     ensures { λ n. ⌜ Moved (now (image .entry)) (now (image .exit)) q column row (now (strip .entry)) n ⌝ }
 {
     let b = q.b;
-    let mut buffer = blank();
+    let mut buffer = Params::blank_strip();
     update_by(image, q, column, row, strip, &mut buffer[0..b])
-}
-
-// Copies a strip to a place of the image.
-fn replace(image: &mut [u8], at: usize, strip: &[u8])
-    requires { ⌜ at + length (now strip) ≤ length (now image) ⌝ }
-    ensures { λ _. ⌜ now (image .exit) ≡ put (now (image .entry)) at (now (strip .entry)) ⌝ }
-{
-    let mut x: usize = 0;
-    while x < strip.len() {
-        image[at + x] = strip[x];
-        x += 1;
-    }
 }
 
 // A write whose base is current: parity, the strip, the revision.
@@ -159,7 +132,7 @@ fn accept(
     ensures { λ w. ⌜ Leaves (write-judged (now (image .entry)) q column row base (now (strip .entry)) Current) w (now (image .exit)) ⌝ }
 {
     let count = update_parity(image, q, column, row, strip);
-    replace(image, strip_at(q, column, row), strip);
+    engine::copy_in(image, q.strip_at(column, row), strip);
     let revision = renew(base);
     stripe::put_u32(image, q.revision_at(column), revision);
     Written::Accepted(revision, count)

@@ -8,8 +8,8 @@ use Rattle.parity.proofs.check_strip.Tie as tie
 due-strip-requires : tie.Need-due-strip-requires
 due-strip-requires c κs = search needs
 
-strip-at-requires : tie.Need-strip-at-requires
-strip-at-requires c κs = search needs
+parity-strip-at-requires : tie.Need-parity-strip-at-requires
+parity-strip-at-requires c κs = search needs
 
 stands-requires : tie.Need-stands-requires
 stands-requires c κs = search strip-room
@@ -22,4 +22,4 @@ returns c = search strip-same
 
 pub check-strip-spec : {M : Type 1} → statement M
 check-strip-spec =
-    tie.close (tie.spec due-strip-requires strip-at-requires stands-requires same-length returns)
+    tie.close (tie.spec due-strip-requires parity-strip-at-requires stands-requires same-length returns)

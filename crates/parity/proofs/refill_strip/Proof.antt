@@ -8,8 +8,8 @@ use Rattle.parity.proofs.refill_strip.Tie as tie
 due-strip-requires : tie.Need-due-strip-requires
 due-strip-requires c κs = search needs
 
-strip-at-requires : tie.Need-strip-at-requires
-strip-at-requires c κs = search needs
+parity-strip-at-requires : tie.Need-parity-strip-at-requires
+parity-strip-at-requires c κs = search needs
 
 copy-in-requires : tie.Need-copy-in-requires
 copy-in-requires c κs = search strip-room
@@ -28,7 +28,7 @@ refill-strip-spec =
     tie.close
     (tie.spec
     due-strip-requires
-    strip-at-requires
+    parity-strip-at-requires
     copy-in-requires
     same-length
     same-length-2

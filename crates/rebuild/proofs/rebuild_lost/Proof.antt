@@ -12,8 +12,8 @@ recovery-requires c κs = search lost-repaired
 places-requires : tie.Need-places-requires
 places-requires c κs = search lost-repaired
 
-blank-requires : tie.Need-blank-requires
-blank-requires c κs = search needs
+blank-strip-requires : tie.Need-blank-strip-requires
+blank-strip-requires c κs = search needs
 
 sub-fill-columns : tie.Need-sub-fill-columns
 sub-fill-columns c = search needs
@@ -48,7 +48,7 @@ rebuild-lost-spec =
     (tie.spec
     recovery-requires
     places-requires
-    blank-requires
+    blank-strip-requires
     sub-fill-columns
     part-fill-columns-start
     part-fill-columns-end

@@ -11,8 +11,8 @@ update-parity-requires c κs = search needs
 strip-at-requires : tie.Need-strip-at-requires
 strip-at-requires c κs = search needs
 
-replace-requires : tie.Need-replace-requires
-replace-requires c κs = search moved-fits
+copy-in-requires : tie.Need-copy-in-requires
+copy-in-requires c κs = search moved-fits
 
 renew-requires : tie.Need-renew-requires
 renew-requires c κs = search needs
@@ -35,7 +35,7 @@ accept-spec =
     (tie.spec
     update-parity-requires
     strip-at-requires
-    replace-requires
+    copy-in-requires
     renew-requires
     revision-at-requires
     put-u32-requires

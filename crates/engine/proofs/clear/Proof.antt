@@ -1,12 +1,12 @@
--- `parity::clear` meets its contract.
+-- `engine::clear` meets its contract.
 -- Assumes nothing.
 use Prim.Native.Nat.{_-_, _≤_}
 use native.Mathlib.Omega.{arith}
 use Rattle.laws.proofs.Patch.{patch-none}
 use Rattle.laws.specs.Patch.{Patched}
-use Rattle.parity.proofs.Bytes.{clear-more, clear-end}
-use Rattle.parity.proofs.clear.Statement.{statement}
-use Rattle.parity.proofs.clear.Tie as tie
+use Rattle.engine.proofs.Bytes.{clear-more, clear-end}
+use Rattle.engine.proofs.clear.Statement.{statement}
+use Rattle.engine.proofs.clear.Tie as tie
 
 abbrev Inv-loop : tie.InvT-loop
 Inv-loop s₀ from n i₀ s i = (i ≤ n) × Patched s₀ s from i (λ o. 0)

@@ -1,13 +1,13 @@
--- `parity::copy_in` meets its contract.
+-- `engine::copy_in` meets its contract.
 -- Assumes nothing.
 use Prim.Native.Nat.{_-_, _≤_}
 use native.Mathlib.Omega.{arith}
 use lib.ListN.{length, getD}
 use Rattle.laws.proofs.Patch.{patch-none}
 use Rattle.laws.specs.Patch.{Patched}
-use Rattle.parity.proofs.Bytes.{copy-more, copy-end}
-use Rattle.parity.proofs.copy_in.Statement.{statement}
-use Rattle.parity.proofs.copy_in.Tie as tie
+use Rattle.engine.proofs.Bytes.{copy-more, copy-end}
+use Rattle.engine.proofs.copy_in.Statement.{statement}
+use Rattle.engine.proofs.copy_in.Tie as tie
 
 abbrev Inv-loop : tie.InvT-loop
 Inv-loop s₀ at src i₀ s i = (i ≤ length src) × Patched s₀ s at i (λ o. getD src o 0)
