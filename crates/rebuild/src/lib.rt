@@ -29,7 +29,7 @@ ghost use Rattle.rebuild.specs.Words.{places, matrix-row, parity-row, pa
 ghost use Rattle.rebuild.specs.Inner.{Strip-place, Cell, named, Begins, Repairable, Planned, place-of, Places-asked, Matrix-column, row-words, Row-given, Direct, Strip-lost, Strip-asked, Prepared, Column-filled};
 
 // Whether the pattern names column n.
-fn is_lost(lost: u64, n: usize) -> bool
+pub fn is_lost(lost: u64, n: usize) -> bool
     requires { ⌜ n < 64 ⌝ }
     ensures { λ x. ⌜ x ≡ is-lost lost n ⌝ }
 {
@@ -98,7 +98,7 @@ fn ask_within(q: Params, lost: u64, column: usize, row: usize, room: usize) -> R
 }
 
 // The same of an image that is read first.
-fn ask(image: &[u8], lost: u64, column: usize, row: usize, room: usize) -> Reading
+pub fn ask(image: &[u8], lost: u64, column: usize, row: usize, room: usize) -> Reading
     ensures { λ x. ⌜ x ≡ asked (now (image .entry)) lost column row room ⌝ }
 {
     let reading = stripe::read(image);
@@ -109,7 +109,7 @@ fn ask(image: &[u8], lost: u64, column: usize, row: usize, room: usize) -> Readi
 }
 
 // Where strip t of column n starts.
-fn strip_at(q: Params, n: usize, t: usize) -> usize
+pub fn strip_at(q: Params, n: usize, t: usize) -> usize
     requires { ⌜ Cell q n t ⌝ }
     ensures { λ x. ⌜ Strip-place q n t x ⌝ }
 {

@@ -1,0 +1,68 @@
+-- The three numbers of an answer, by the case of the answer behind it; and the shape that a reading leaves.
+-- Assumes nothing.
+use Prim.Native.Nat.{ℕ}
+use mathlib.Core.List.{List}
+use mathlib.Core.Path.{_≡_, sym, ap, _∙_}
+use Rattle.refusal.specs.declared.Refusal.{Refusal}
+use Rattle.refusal.specs.Number.{numberOf}
+use Rattle.stripe.specs.declared.Params.{Params}
+use Rattle.stripe.specs.declared.Reading.{Reading}
+use Rattle.stripe.specs.declared.Reading.the-variants.{Stripe, Refused as Unread}
+use Rattle.stripe.specs.Reading.{readOf, reading-values, refusal-given}
+use Rattle.ring.specs.declared.Element.{Element}
+use Rattle.ring.specs.declared.Element.the-variants.{Word, Refused as NoElement}
+use Rattle.parity.specs.declared.Outcome.{Outcome}
+use Rattle.parity.specs.declared.Outcome.the-variants.{Done, Refused as NoOutcome}
+use Rattle.parity.specs.declared.Checkup.{Checkup}
+use Rattle.parity.specs.declared.Checkup.the-variants.{Wrong, Refused as Unchecked}
+use Rattle.write.specs.declared.Written.{Written}
+use Rattle.write.specs.declared.Written.the-variants.{Accepted, Refused as Unwritten}
+use Rattle.airsaffron.specs.declared.Answer.{Answer}
+use Rattle.airsaffron.specs.Given.{refused-given, element-given, outcome-given, checkup-given, written-given, reading-given, shape-left}
+
+-- ---- the numbers of an answer
+
+pub refused-is : (e : Refusal) (n : ℕ) → n ≡ numberOf e → _≡_ {A = Answer} (record { refusal = n; first = 0; second = 0 }) (refused-given e)
+refused-is e n h = ap (λ (m : ℕ). record { refusal = m; first = 0; second = 0 }) h
+
+module _ (x : Answer) where
+  module _ (a b : ℕ) (h : x ≡ record { refusal = 0; first = a; second = b }) where
+    pub word-is : (y : Element) → y ≡ Word a → b ≡ 0 → x ≡ element-given y
+    word-is y e z = h ∙ (ap (λ (m : ℕ). record { refusal = 0; first = a; second = m }) z ∙ ap element-given (sym e))
+
+    pub wrong-is : (y : Checkup) → y ≡ Wrong a → b ≡ 0 → x ≡ checkup-given y
+    wrong-is y e z = h ∙ (ap (λ (m : ℕ). record { refusal = 0; first = a; second = m }) z ∙ ap checkup-given (sym e))
+
+    pub accepted-is : (y : Written) → y ≡ Accepted a b → x ≡ written-given y
+    accepted-is y e = h ∙ ap written-given (sym e)
+
+  pub done-is : (y : Outcome) → x ≡ record { refusal = 0; first = 0; second = 0 } → y ≡ Done → x ≡ outcome-given y
+  done-is y h e = h ∙ ap outcome-given (sym e)
+
+  module _ (d : Refusal) (h : x ≡ refused-given d) where
+    pub no-word : (y : Element) → y ≡ NoElement d → x ≡ element-given y
+    no-word y e = h ∙ ap element-given (sym e)
+
+    pub no-outcome : (y : Outcome) → y ≡ NoOutcome d → x ≡ outcome-given y
+    no-outcome y e = h ∙ ap outcome-given (sym e)
+
+    pub no-checkup : (y : Checkup) → y ≡ Unchecked d → x ≡ checkup-given y
+    no-checkup y e = h ∙ ap checkup-given (sym e)
+
+    pub no-write : (y : Written) → y ≡ Unwritten d → x ≡ written-given y
+    no-write y e = h ∙ ap written-given (sym e)
+
+-- ---- `airsaffron_read`, after reading: v is what the reading gave
+
+module _ (s shape : List ℕ) (v : Reading) (a : v ≡ readOf s) where
+  pub unread-is : (x : Answer) (e d : Refusal) → v ≡ Unread e → d ≡ refusal-given v → x ≡ refused-given d → x ≡ reading-given (readOf s)
+  unread-is x e d f g h = h ∙ (ap refused-given (g ∙ ap refusal-given f) ∙ ap reading-given (sym f ∙ a))
+
+  pub shape-kept : (e : Refusal) → v ≡ Unread e → shape ≡ shape-left shape (readOf s)
+  shape-kept e f = ap (shape-left shape) (sym f ∙ a)
+
+  pub read-is : (x : Answer) (q : Params) → v ≡ Stripe q → x ≡ record { refusal = 0; first = 0; second = 0 } → x ≡ reading-given (readOf s)
+  read-is x q f h = h ∙ ap reading-given (sym f ∙ a)
+
+  pub shape-told : (q : Params) (t : List ℕ) → v ≡ Stripe q → t ≡ reading-values (Stripe q) → t ≡ shape-left shape (readOf s)
+  shape-told q t f g = g ∙ ap (shape-left shape) (sym f ∙ a)
