@@ -24,3 +24,4 @@ pub mod Lost
 pub mod Restored
 pub mod Inverted
 pub mod Touch
+pub mod Walk

@@ -6,3 +6,4 @@ pub mod Word
 pub mod Cauchy
 pub mod Code
 pub mod Recovery
+pub mod Walk

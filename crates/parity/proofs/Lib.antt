@@ -1,8 +1,8 @@
 pub mod Touching
 pub mod Bytes
-pub mod Strips
 pub mod Columns
 pub mod Front
 pub mod Heads
 pub mod Calls
 pub mod Rightness
+pub mod Blocks

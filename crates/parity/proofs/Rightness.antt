@@ -26,12 +26,12 @@ use Rattle.stripe.specs.Layout.{rows, data-byte, parity-byte, parity-from, pari
 use Rattle.stripe.specs.Params.{Admitted}
 use Rattle.stripe.specs.Reading.{Image}
 use Rattle.stripe.specs.declared.Params.{Params}
-use Rattle.parity.proofs.Bytes.{all-below, below-all}
-use Rattle.parity.proofs.Columns.{at-column, column-row, same-due, column-some, right-strip}
+use Rattle.parity.proofs.Bytes.{all-below}
+use Rattle.parity.proofs.Columns.{at-column, column-row, same-due, column-some, right-byte}
 use Rattle.parity.proofs.Front.{length-head}
 use Rattle.parity.proofs.Heads.{head-image, head-refilled, head-data}
 use Rattle.parity.specs.Answer.{parity-right, wrong-parities}
-use Rattle.parity.specs.Inner.{strip-right, opening, head}
+use Rattle.parity.specs.Inner.{opening, head}
 use Rattle.parity.specs.Make.{sixteen, given, made}
 use Rattle.parity.specs.Parity.{due, due-at, refilled, Right}
 
@@ -63,10 +63,10 @@ module _ (s : List ℕ) (q : Params) (i : Image s q) where
           ∙ sym (same-due s (refilled s q) q j t x refilled-rest l)
 
 -- byte o of a column is byte o % b of its row o / b
-row-of : (o b : ℕ) → o / b * b + o % b ≡ o
+pub row-of : (o b : ℕ) → o / b * b + o % b ≡ o
 row-of o b = div-add-mod' o b
 
-row-lt : (o n b : ℕ) → o < n * b → o / b < n
+pub row-lt : (o n b : ℕ) → o < n * b → o / b < n
 row-lt o n b h =
     elim (decLt (o / b) n) [
       | yes k ↦ k
@@ -141,13 +141,10 @@ module _ (q : Params) (d : List ℕ) (A : Admitted q) (w : length d ≡ q .k * c
 -- ---- checking
 
 module _ (s : List ℕ) (q : Params) (j : ℕ) where
-  right-bytes : parity-right s q j ≡ true → (t x : ℕ) → t < rows q → x < q .b → parity-byte s q j t x ≡ due q (data-byte s q) j t x
-  unfolding strip-right
-  right-bytes e t x h l =
-      eqb-true (parity-byte s q j t x) (due q (data-byte s q) j t x)
-      (below-all (q .b) (λ y. eqb (parity-byte s q j t y) (due q (data-byte s q) j t y)) x (right-strip s q j t h (sym e)) l)
+  pub right-bytes : parity-right s q j ≡ true → (t x : ℕ) → t < rows q → x < q .b → parity-byte s q j t x ≡ due q (data-byte s q) j t x
+  right-bytes e t x h l = eqb-true (parity-byte s q j t x) (due q (data-byte s q) j t x) (right-byte s q j t x h l e)
 
-  bytes-right : Admitted q → ((t x : ℕ) → t < rows q → x < q .b → parity-byte s q j t x ≡ due q (data-byte s q) j t x) → parity-right s q j ≡ true
+  pub bytes-right : Admitted q → ((t x : ℕ) → t < rows q → x < q .b → parity-byte s q j t x ≡ due q (data-byte s q) j t x) → parity-right s q j ≡ true
   unfolding parity-right
   bytes-right A h =
       let some : 0 < q .b = omega (arith, A .b-low) in

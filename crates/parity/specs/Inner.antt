@@ -1,51 +1,26 @@
 -- What the inner functions ask for and what they leave.
 -- Assumes nothing.
-use Prim.Native.Nat.{ℕ, _+_, _*_, _/_, _%_, _<_}
-use mathlib.Core.Bool.{Bool}
+use Prim.Native.Nat.{ℕ, _+_, _*_, _/_, _%_, _<_, _≤_}
 use mathlib.Core.List.{List, _++_}
+use mathlib.Core.Logic.{_≢_}
 use mathlib.Core.Path.{_≡_}
-use lib.Dec.{eqb}
 use lib.ListN.{length, take, getD}
 use Rattle.laws.specs.Bit.{pack}
-use Rattle.laws.specs.Choose.{below, choose}
+use Rattle.laws.specs.Choose.{choose}
 use Rattle.laws.specs.Part.{put}
-use Rattle.laws.specs.Sum.{sum}
-use Rattle.algebra.specs.Column.{lane}
-use Rattle.algebra.specs.Divide.{over}
-use Rattle.stripe.specs.Layout.{rows, column-length, image-length, parity-byte, data-byte, parity-at}
+use Rattle.stripe.specs.Layout.{rows, column-length, image-length, parity-byte, data-byte, parity-from}
 use Rattle.stripe.specs.Params.{Admitted}
 use Rattle.stripe.specs.Reading.{Image}
 use Rattle.stripe.specs.declared.Params.{Params}
 use Rattle.parity.specs.Answer.{parity-right}
 use Rattle.parity.specs.Make.{sixteen, section-1, section-2, section-3}
 use Rattle.parity.specs.Parity.{due}
-use Rattle.parity.specs.declared.Outcome.{Outcome}
 
--- the first n bytes of src stand in s at a place
-unfoldable pub alike : List ℕ → ℕ → List ℕ → ℕ → Bool
-alike s at src n = below n (λ o. eqb (getD s (at + o) 0) (getD src o 0))
-
--- ---- parity strips
-
--- what data column i gives to byte x of parity strip (j, t)
-unfoldable pub share : Params → (ℕ → ℕ → ℕ → ℕ) → ℕ → ℕ → ℕ → ℕ → ℕ
-share q d j t i x = over (rows q) j (q .r + i) (lane (rows q) (λ u. d i u x)) t
-
--- what the first n data columns give
-unfoldable pub due-to : Params → (ℕ → ℕ → ℕ → ℕ) → ℕ → ℕ → ℕ → ℕ → ℕ
-due-to q d j t n x = sum n (λ i. share q d j t i x)
+-- ---- parity by blocks of lanes: lane x is byte x of each strip
 
 -- byte o of parity column j, which stands row by row
 unfoldable pub due-column : Params → (ℕ → ℕ → ℕ → ℕ) → ℕ → ℕ → ℕ
 due-column q d j o = due q d j (o / q .b) (o % q .b)
-
--- the bytes of parity strip (j, t) are as they should be
-unfoldable pub strip-right : List ℕ → Params → ℕ → ℕ → Bool
-strip-right s q j t = below (q .b) (λ x. eqb (parity-byte s q j t x) (due q (data-byte s q) j t x))
-
--- the first n bytes of parity column j are as they should be
-unfoldable pub right-to : List ℕ → Params → ℕ → ℕ → Bool
-right-to s q j n = below n (λ o. eqb (getD s (parity-at q j + o) 0) (due-column q (data-byte s q) j o))
 
 -- 0 where parity j is right, else 1; the word of these of the first n parities
 unfoldable pub wrong-bit : List ℕ → Params → ℕ → ℕ
@@ -54,29 +29,51 @@ wrong-bit s q j = choose (parity-right s q j) 0 1
 unfoldable pub wrong-to : List ℕ → Params → ℕ → ℕ
 wrong-to s q n = pack n (wrong-bit s q)
 
--- parity strip (j, t)
-pub record Strip-place (q : Params) (j t : ℕ) : Type 0 where
-  pub admitted : Admitted q
-  pub column : j < q .r
-  pub row : t < rows q
-
--- an image, and a strip to work in; with a parity column j; with a parity strip (j, t); with a data column i too
-pub record Asked (s out : List ℕ) (q : Params) : Type 0 where
+-- an image, room for p rows of w lanes, and parity j; with a block of lanes from l
+pub record Column-asked (s acc : List ℕ) (q : Params) (j w : ℕ) : Type 0 where
   pub image : Image s q
-  pub width : length out ≡ q .b
-
-pub record Column-asked (s out : List ℕ) (q : Params) (j : ℕ) : Type 0 where
-  pub asked : Asked s out q
   pub column : j < q .r
+  pub some : 1 ≤ w
+  pub lanes : w ≤ 128
+  pub fits : w ≤ q .b
+  pub room : q .p * w ≤ length acc
 
-pub record Strip-asked (s out : List ℕ) (q : Params) (j t : ℕ) : Type 0 where
-  pub asked : Asked s out q
+pub record Block-asked (s acc : List ℕ) (q : Params) (j l w : ℕ) : Type 0 where
+  pub image : Image s q
   pub column : j < q .r
-  pub row : t < rows q
+  pub lanes : w ≤ 128
+  pub within : l + w ≤ q .b
+  pub room : q .p * w ≤ length acc
 
-pub record Share-asked (s out : List ℕ) (q : Params) (j t i : ℕ) : Type 0 where
-  pub strip : Strip-asked s out q j t
-  pub of : i < q .k
+-- a block of w lanes of b that starts at `a` has the lanes from l on that a block has
+pub record Starts (l w b a : ℕ) : Type 0 where
+  pub low : a ≤ l
+  pub inside : a + w ≤ b
+  pub reach : (x : ℕ) → x < l + w → x < b → x < a + w
+
+-- s is now t: in parity j the lanes from lo to hi are due, and no other byte changed
+pub record Block-filled (s t : List ℕ) (q : Params) (j lo hi : ℕ) : Type 0 where
+  pub len : length t ≡ length s
+  pub head : (o : ℕ) → o < parity-from q → getD t o 0 ≡ getD s o 0
+  pub lanes : (u x : ℕ) → u < rows q → lo ≤ x → x < hi → parity-byte t q j u x ≡ due q (data-byte s q) j u x
+  pub rest : (i u x : ℕ) → u < rows q → x < q .b → (i ≡ j → lo ≤ x → x < hi → ⊥) → parity-byte t q i u x ≡ parity-byte s q i u x
+
+-- s is now t: in parity j the lanes below n are due, and no byte of another parity or before parity changed
+pub record Column-filled (s t : List ℕ) (q : Params) (j n : ℕ) : Type 0 where
+  pub len : length t ≡ length s
+  pub head : (o : ℕ) → o < parity-from q → getD t o 0 ≡ getD s o 0
+  pub lanes : (u x : ℕ) → u < rows q → x < n → x < q .b → parity-byte t q j u x ≡ due q (data-byte s q) j u x
+  pub rest : (i u x : ℕ) → i ≢ j → u < rows q → x < q .b → parity-byte t q i u x ≡ parity-byte s q i u x
+
+-- s is now t: the first n parities are due, and no byte before parity changed
+pub record Columns-filled (s t : List ℕ) (q : Params) (n : ℕ) : Type 0 where
+  pub len : length t ≡ length s
+  pub head : (o : ℕ) → o < parity-from q → getD t o 0 ≡ getD s o 0
+  pub lanes : (j u x : ℕ) → j < n → u < rows q → x < q .b → parity-byte t q j u x ≡ due q (data-byte s q) j u x
+
+-- in parity j the lanes from lo to hi are due
+pub record Lanes-right (s : List ℕ) (q : Params) (j lo hi : ℕ) : Type 0 where
+  pub bytes : (t x : ℕ) → t < rows q → lo ≤ x → x < hi → x < q .b → parity-byte s q j t x ≡ due q (data-byte s q) j t x
 
 -- ---- a new image
 

@@ -4,19 +4,19 @@ use stripe::Checked;
 use stripe::Params;
 use stripe::Reading;
 ghost use mathlib.Core.Path.{_≡_};
-ghost use Prim.Native.Nat.{_+_, _*_, _≤_};
+ghost use Prim.Native.Nat.{_+_, _≤_};
+ghost use lib.Dec.{eqb};
 ghost use lib.ListN.{length};
+ghost use Rattle.laws.specs.Choose.{choose};
+ghost use Rattle.laws.specs.Left.{Leaves};
 ghost use Rattle.laws.specs.Part.{put, tab};
-ghost use Rattle.laws.specs.Patch.{Patched};
-ghost use Rattle.stripe.specs.Layout.{column-length, data-byte, image-length, parity-at, parity-strip-at};
 ghost use Rattle.stripe.specs.Params.{Admitted};
 ghost use Rattle.stripe.specs.Reading.{Image};
-ghost use Rattle.engine.specs.Strips.{onto};
-ghost use Rattle.parity.specs.Parity.{due, refilled};
+ghost use Rattle.walk.specs.Lanes.{Shows};
+ghost use Rattle.parity.specs.Parity.{refilled};
 ghost use Rattle.parity.specs.Make.{sixteen, made};
 ghost use Rattle.parity.specs.Answer.{make-sound, makeOf, refillOf, wrong-parities, checkOf};
-ghost use Rattle.laws.specs.Left.{Leaves};
-ghost use Rattle.parity.specs.Inner.{alike, share, due-column, strip-right, wrong-bit, Strip-place, Asked, Column-asked, Strip-asked, Share-asked, Written, three, Room, Begun, opening, head};
+ghost use Rattle.parity.specs.Inner.{wrong-bit, Column-asked, Block-asked, Starts, Block-filled, Column-filled, Lanes-right, Written, three, Room, Begun, opening, head};
 
 // Done, or the refusal.
 pub enum Outcome {
@@ -30,74 +30,101 @@ pub enum Checkup {
     Refused(Refusal),
 }
 
-// Whether the bytes of src stand in s at a place.
-fn stands(s: &[u8], at: usize, src: &[u8]) -> bool
-    requires { ⌜ at + length (now src) ≤ length (now s) ⌝ }
-    ensures { λ x. ⌜ x ≡ alike (now (s .entry)) at (now (src .entry)) (length (now (src .entry))) ⌝ }
+// Puts lanes l to l + w of parity j in their place, worked out in `acc`.
+fn refill_block(image: &mut [u8], q: Params, j: usize, l: usize, w: usize, acc: &mut [u8])
+    requires { ⌜ Block-asked (now image) (now acc) q j l w ⌝ }
+    ensures { λ _. ⌜ Block-filled (now (image .entry)) (now (image .exit)) q j l (l + w) ⌝ }
 {
-    let mut i: usize = 0;
-    while i < src.len() {
-        if s[at + i] != src[i] {
-            return false;
-        }
-        i += 1;
+    let from = q.data_at(0) + l;
+    let d = q.r - j;
+    walk::walk_first(image, from, q.p, q.b, d, w, acc);
+    walk::columns(image, from, q.p, q.k, q.b, d, w, acc);
+    walk::finish(image, q.parity_at(j) + l, q.p, q.b, j, w, acc);
+}
+
+// 0 where bad is 0 and lanes l to l + w of parity j are right; worked out in `acc`.
+fn check_block(bad: u8, image: &[u8], q: Params, j: usize, l: usize, w: usize, acc: &mut [u8]) -> u8
+    requires { ⌜ Block-asked (now image) (now acc) q j l w ⌝ }
+    ensures { λ r. ⌜ Shows bad r (Lanes-right (now (image .entry)) q j l (l + w)) ⌝ }
+{
+    let from = q.data_at(0) + l;
+    let d = q.r - j;
+    walk::walk_first(image, from, q.p, q.b, d, w, acc);
+    walk::columns(image, from, q.p, q.k, q.b, d, w, acc);
+    walk::compare(bad, image, q.parity_at(j) + l, q.p, q.b, j, w, acc)
+}
+
+// Where the block starts that has lane l: at l, or lower where a block from l would end past the strip.
+fn block_from(l: usize, w: usize, b: usize) -> usize
+    requires { ⌜ w ≤ b ⌝ }
+    ensures { λ a. ⌜ Starts l w b a ⌝ }
+{
+    if l > b - w {
+        return b - w;
     }
-    true
+    l
 }
 
-// Adds what data column i gives to strip t of parity j.
-fn add_share(src: &[u8], q: Params, j: usize, t: usize, i: usize, out: &mut [u8])
-    requires { ⌜ Share-asked (now src) (now out) q j t i ⌝ }
-    ensures { λ _. ⌜ Patched (now (out .entry)) (now (out .exit)) 0 (q .b) (onto (now (out .entry)) (share q (data-byte (now (src .entry)) q) j t i)) ⌝ }
+// Puts parity j in its place, w lanes at a time.
+fn refill_column(image: &mut [u8], q: Params, j: usize, w: usize, acc: &mut [u8])
+    requires { ⌜ Column-asked (now image) (now acc) q j w ⌝ }
+    ensures { λ _. ⌜ Column-filled (now (image .entry)) (now (image .exit)) q j (q .b) ⌝ }
 {
-    let word = ring::inverse(j, q.r + i, q.p);
-    let mask = engine::mask(word, t, q.p);
-    engine::gather(src, q.data_at(i), q.p - 1, mask, out);
-}
-
-// Strip t of parity j, worked out from the data of src, into out; what out held before does not matter.
-pub fn due_strip(src: &[u8], q: Params, j: usize, t: usize, out: &mut [u8])
-    requires { ⌜ Strip-asked (now src) (now out) q j t ⌝ }
-    ensures { λ _. ⌜ now (out .exit) ≡ tab (q .b) (due q (data-byte (now (src .entry)) q) j t) ⌝ }
-{
-    engine::clear(out, 0, q.b);
-    let mut i: usize = 0;
-    while i < q.k {
-        add_share(src, q, j, t, i, out);
-        i += 1;
-    }
-}
-
-// Puts strip t of parity j in its place, worked out in `strip`.
-fn refill_strip(image: &mut [u8], q: Params, j: usize, t: usize, strip: &mut [u8])
-    requires { ⌜ Strip-asked (now image) (now strip) q j t ⌝ }
-    ensures { λ _. ⌜ Patched (now (image .entry)) (now (image .exit)) (parity-strip-at q j t) (q .b) (due q (data-byte (now (image .entry)) q) j t) ⌝ }
-{
-    due_strip(image, q, j, t, strip);
-    engine::copy_in(image, q.parity_strip_at(j, t), strip);
-}
-
-// Puts every strip of parity j in its place.
-fn refill_column(image: &mut [u8], q: Params, j: usize, strip: &mut [u8])
-    requires { ⌜ Column-asked (now image) (now strip) q j ⌝ }
-    ensures { λ _. ⌜ Patched (now (image .entry)) (now (image .exit)) (parity-at q j) (column-length q) (due-column q (data-byte (now (image .entry)) q) j) ⌝ }
-{
-    let rows = q.p - 1;
-    let mut t: usize = 0;
-    while t < rows {
-        refill_strip(image, q, j, t, strip);
-        t += 1;
+    let mut l: usize = 0;
+    while l < q.b {
+        refill_block(image, q, j, block_from(l, w, q.b), w, acc);
+        l += w;
     }
 }
 
-// Puts every parity in its place.
-fn refill_columns(image: &mut [u8], q: Params, strip: &mut [u8])
-    requires { ⌜ Asked (now image) (now strip) q ⌝ }
+// Puts every parity in its place, 128 lanes at a time.
+fn refill_wide(image: &mut [u8], q: Params)
+    requires { ⌜ Image (now image) q × (128 ≤ q .b) ⌝ }
     ensures { λ _. ⌜ now (image .exit) ≡ refilled (now (image .entry)) q ⌝ }
 {
+    let mut acc = [0u8; 7808];
     let mut j: usize = 0;
     while j < q.r {
-        refill_column(image, q, j, strip);
+        refill_column(image, q, j, 128, &mut acc);
+        j += 1;
+    }
+}
+
+// The same, 32 lanes at a time.
+fn refill_middle(image: &mut [u8], q: Params)
+    requires { ⌜ Image (now image) q × (32 ≤ q .b) ⌝ }
+    ensures { λ _. ⌜ now (image .exit) ≡ refilled (now (image .entry)) q ⌝ }
+{
+    let mut acc = [0u8; 1952];
+    let mut j: usize = 0;
+    while j < q.r {
+        refill_column(image, q, j, 32, &mut acc);
+        j += 1;
+    }
+}
+
+// The same, 16 lanes at a time.
+fn refill_narrow(image: &mut [u8], q: Params)
+    requires { ⌜ Image (now image) q × (16 ≤ q .b) ⌝ }
+    ensures { λ _. ⌜ now (image .exit) ≡ refilled (now (image .entry)) q ⌝ }
+{
+    let mut acc = [0u8; 976];
+    let mut j: usize = 0;
+    while j < q.r {
+        refill_column(image, q, j, 16, &mut acc);
+        j += 1;
+    }
+}
+
+// The same, all lanes of a strip of less than 16 bytes at once.
+fn refill_thin(image: &mut [u8], q: Params)
+    requires { ⌜ Image (now image) q × (q .b ≤ 16) ⌝ }
+    ensures { λ _. ⌜ now (image .exit) ≡ refilled (now (image .entry)) q ⌝ }
+{
+    let mut acc = [0u8; 976];
+    let mut j: usize = 0;
+    while j < q.r {
+        refill_block(image, q, j, 0, q.b, &mut acc);
         j += 1;
     }
 }
@@ -107,45 +134,100 @@ fn refill_all(image: &mut [u8], q: Params)
     requires { ⌜ Image (now image) q ⌝ }
     ensures { λ _. ⌜ now (image .exit) ≡ refilled (now (image .entry)) q ⌝ }
 {
-    let b = q.b;
-    let mut strip = Params::blank_strip();
-    refill_columns(image, q, &mut strip[0..b]);
-}
-
-// Whether strip t of parity j is as the data make it.
-fn check_strip(image: &[u8], q: Params, j: usize, t: usize, strip: &mut [u8]) -> bool
-    requires { ⌜ Strip-asked (now image) (now strip) q j t ⌝ }
-    ensures { λ x. ⌜ x ≡ strip-right (now (image .entry)) q j t ⌝ }
-{
-    due_strip(image, q, j, t, strip);
-    stands(image, q.parity_strip_at(j, t), strip)
-}
-
-// 0 where parity j is right, else 1.
-fn check_column(image: &[u8], q: Params, j: usize, strip: &mut [u8]) -> u64
-    requires { ⌜ Column-asked (now image) (now strip) q j ⌝ }
-    ensures { λ x. ⌜ x ≡ wrong-bit (now (image .entry)) q j ⌝ }
-{
-    let n = q.p - 1;
-    let mut t: usize = 0;
-    while t < n {
-        if !check_strip(image, q, j, t, strip) {
-            return 1;
-        }
-        t += 1;
+    if q.b >= 128 {
+        refill_wide(image, q);
+        return;
     }
-    0
+    if q.b >= 32 {
+        refill_middle(image, q);
+        return;
+    }
+    if q.b >= 16 {
+        refill_narrow(image, q);
+        return;
+    }
+    refill_thin(image, q);
 }
 
-// The word whose bit j is set where parity j is wrong, worked out in `strip`.
-fn check_columns(image: &[u8], q: Params, strip: &mut [u8]) -> u64
-    requires { ⌜ Asked (now image) (now strip) q ⌝ }
+// 0 for 0, else 1.
+fn flag(bad: u8) -> u64
+    ensures { λ r. ⌜ r ≡ choose (eqb bad 0) 0 1 ⌝ }
+{
+    if bad == 0 {
+        return 0;
+    }
+    1
+}
+
+// 0 where parity j is right, else 1; w lanes at a time.
+fn check_column(image: &[u8], q: Params, j: usize, w: usize, acc: &mut [u8]) -> u64
+    requires { ⌜ Column-asked (now image) (now acc) q j w ⌝ }
+    ensures { λ r. ⌜ r ≡ wrong-bit (now (image .entry)) q j ⌝ }
+{
+    let mut bad: u8 = 0;
+    let mut l: usize = 0;
+    while l < q.b {
+        bad = check_block(bad, image, q, j, block_from(l, w, q.b), w, acc);
+        l += w;
+    }
+    flag(bad)
+}
+
+// The word whose bit j is set where parity j is wrong, found 128 lanes at a time.
+fn check_wide(image: &[u8], q: Params) -> u64
+    requires { ⌜ Image (now image) q × (128 ≤ q .b) ⌝ }
     ensures { λ x. ⌜ x ≡ wrong-parities (now (image .entry)) q ⌝ }
 {
+    let mut acc = [0u8; 7808];
     let mut word = 0;
     let mut j: usize = 0;
     while j < q.r {
-        word += check_column(image, q, j, strip) << j;
+        word += check_column(image, q, j, 128, &mut acc) << j;
+        j += 1;
+    }
+    word
+}
+
+// The same, 32 lanes at a time.
+fn check_middle(image: &[u8], q: Params) -> u64
+    requires { ⌜ Image (now image) q × (32 ≤ q .b) ⌝ }
+    ensures { λ x. ⌜ x ≡ wrong-parities (now (image .entry)) q ⌝ }
+{
+    let mut acc = [0u8; 1952];
+    let mut word = 0;
+    let mut j: usize = 0;
+    while j < q.r {
+        word += check_column(image, q, j, 32, &mut acc) << j;
+        j += 1;
+    }
+    word
+}
+
+// The same, 16 lanes at a time.
+fn check_narrow(image: &[u8], q: Params) -> u64
+    requires { ⌜ Image (now image) q × (16 ≤ q .b) ⌝ }
+    ensures { λ x. ⌜ x ≡ wrong-parities (now (image .entry)) q ⌝ }
+{
+    let mut acc = [0u8; 976];
+    let mut word = 0;
+    let mut j: usize = 0;
+    while j < q.r {
+        word += check_column(image, q, j, 16, &mut acc) << j;
+        j += 1;
+    }
+    word
+}
+
+// The same, all lanes of a strip of less than 16 bytes at once.
+fn check_thin(image: &[u8], q: Params) -> u64
+    requires { ⌜ Image (now image) q × (q .b ≤ 16) ⌝ }
+    ensures { λ x. ⌜ x ≡ wrong-parities (now (image .entry)) q ⌝ }
+{
+    let mut acc = [0u8; 976];
+    let mut word = 0;
+    let mut j: usize = 0;
+    while j < q.r {
+        word += flag(check_block(0, image, q, j, 0, q.b, &mut acc)) << j;
         j += 1;
     }
     word
@@ -156,9 +238,16 @@ fn wrong(image: &[u8], q: Params) -> u64
     requires { ⌜ Image (now image) q ⌝ }
     ensures { λ x. ⌜ x ≡ wrong-parities (now (image .entry)) q ⌝ }
 {
-    let b = q.b;
-    let mut strip = Params::blank_strip();
-    check_columns(image, q, &mut strip[0..b])
+    if q.b >= 128 {
+        return check_wide(image, q);
+    }
+    if q.b >= 32 {
+        return check_middle(image, q);
+    }
+    if q.b >= 16 {
+        return check_narrow(image, q);
+    }
+    check_thin(image, q)
 }
 
 // Sets all parity of an image from its data; other bytes stay.

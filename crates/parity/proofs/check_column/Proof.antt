@@ -1,50 +1,47 @@
 -- `parity::check_column` meets its contract.
 -- Assumes nothing.
-use Prim.Native.Nat.{_-_, _*_, _≤_}
-use mathlib.Core.Bool.{true}
+use Prim.Native.Nat.{_-_}
 use mathlib.Core.Path.{_≡_, refl}
 use native.Mathlib.Omega.{arith}
 use lib.ListN.{length}
-use Rattle.parity.proofs.Columns.{right-none, right-more, right-not, right-end, row-asked}
+use Rattle.walk.specs.Lanes.{Shows}
+use Rattle.parity.proofs.Blocks.{shown-none, shown-more, flag-column, check-asked}
 use Rattle.parity.proofs.check_column.Statement.{statement}
-use Rattle.parity.specs.Inner.{right-to}
+use Rattle.parity.specs.Inner.{Lanes-right}
 use Rattle.parity.proofs.check_column.Tie as tie
 
 abbrev Inv-loop : tie.InvT-loop
-Inv-loop image q j strip₀ n t₀ strip t = (n ≡ q .p - 1) × (t ≤ n) × (length strip ≡ length strip₀) × (true ≡ right-to image q j (t * q .b))
+Inv-loop image q j w acc₀ bad₀ l₀ acc bad l = (length acc ≡ length acc₀) × Shows 0 bad (Lanes-right image q j 0 l)
 
 abbrev μ-loop : tie.MeasureT-loop
-μ-loop image q j strip₀ n t₀ strip t = n - t
-
-sub-n : tie.Need-sub-n Inv-loop μ-loop
-sub-n c = omega arith
+μ-loop image q j w acc₀ bad₀ l₀ acc bad l = q .b - l
 
 loop-holds : tie.Need-loop-holds Inv-loop μ-loop
-loop-holds c = (omega arith, omega arith, refl, search right-none)
+loop-holds c = (refl, search shown-none)
 
-check-strip-requires : tie.Need-check-strip-requires Inv-loop μ-loop
-check-strip-requires c κs = search row-asked
+block-from-requires : tie.Need-block-from-requires Inv-loop μ-loop
+block-from-requires c κs = omega arith
 
-same-length : tie.Need-same-length Inv-loop μ-loop
-same-length c = omega arith
+check-block-requires : tie.Need-check-block-requires Inv-loop μ-loop
+check-block-requires c κs = search check-asked
 
-returns : tie.Need-returns Inv-loop μ-loop
-returns c = search right-not
-
-add-t : tie.Need-add-t Inv-loop μ-loop
-add-t c = omega arith
+add-l : tie.Need-add-l Inv-loop μ-loop
+add-l c = omega arith
 
 loop-less : tie.Need-loop-less Inv-loop μ-loop
 loop-less c = omega arith
 
 loop-again : tie.Need-loop-again Inv-loop μ-loop
-loop-again c = (omega arith, omega arith, omega arith, search right-more)
+loop-again c = (omega arith, search shown-more)
 
-same-length-2 : tie.Need-same-length-2 Inv-loop μ-loop
-same-length-2 c = omega arith
+flag-requires : tie.Need-flag-requires Inv-loop μ-loop
+flag-requires c κs = omega arith
 
-returns-2 : tie.Need-returns-2 Inv-loop μ-loop
-returns-2 c = search right-end
+same-length : tie.Need-same-length Inv-loop μ-loop
+same-length c = omega arith
+
+returns : tie.Need-returns Inv-loop μ-loop
+returns c = search flag-column
 
 pub check-column-spec : {M : Type 1} → statement M
 check-column-spec =
@@ -52,13 +49,12 @@ check-column-spec =
     (tie.spec
     Inv-loop
     μ-loop
-    sub-n
     loop-holds
-    check-strip-requires
-    same-length
-    returns
-    add-t
+    block-from-requires
+    check-block-requires
+    add-l
     loop-less
     loop-again
-    same-length-2
-    returns-2)
+    flag-requires
+    same-length
+    returns)

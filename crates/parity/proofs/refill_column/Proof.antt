@@ -1,39 +1,37 @@
 -- `parity::refill_column` meets its contract.
 -- Assumes nothing.
-use Prim.Native.Nat.{_-_, _*_, _≤_}
+use Prim.Native.Nat.{_-_}
 use mathlib.Core.Path.{_≡_, refl}
 use native.Mathlib.Omega.{arith}
 use lib.ListN.{length}
-use Rattle.laws.specs.Patch.{Patched}
-use Rattle.stripe.specs.Layout.{parity-at, data-byte}
-use Rattle.parity.proofs.Columns.{column-none, column-strip, column-more, column-end}
+use Rattle.parity.proofs.Blocks.{column-none, column-block, column-more, column-end}
 use Rattle.parity.proofs.refill_column.Statement.{statement}
-use Rattle.parity.specs.Inner.{due-column}
+use Rattle.parity.specs.Inner.{Column-filled}
 use Rattle.parity.proofs.refill_column.Tie as tie
 
 abbrev Inv-loop : tie.InvT-loop
-Inv-loop image₀ q j strip₀ rows t₀ image strip t = (rows ≡ q .p - 1) × (t ≤ rows) × (length strip ≡ length strip₀) × Patched image₀ image (parity-at q j) (t * q .b) (due-column q (data-byte image₀ q) j)
+Inv-loop image₀ q j w acc₀ l₀ image acc l = (length acc ≡ length acc₀) × Column-filled image₀ image q j l
 
 abbrev μ-loop : tie.MeasureT-loop
-μ-loop image₀ q j strip₀ rows t₀ image strip t = rows - t
-
-sub-rows : tie.Need-sub-rows Inv-loop μ-loop
-sub-rows c = omega arith
+μ-loop image₀ q j w acc₀ l₀ image acc l = q .b - l
 
 loop-holds : tie.Need-loop-holds Inv-loop μ-loop
-loop-holds c = (refl, omega arith, refl, search column-none)
+loop-holds c = (refl, search column-none)
 
-refill-strip-requires : tie.Need-refill-strip-requires Inv-loop μ-loop
-refill-strip-requires c κs = search column-strip
+block-from-requires : tie.Need-block-from-requires Inv-loop μ-loop
+block-from-requires c κs = omega arith
 
-add-t : tie.Need-add-t Inv-loop μ-loop
-add-t c = omega arith
+refill-block-requires : tie.Need-refill-block-requires Inv-loop μ-loop
+refill-block-requires c κs = search column-block
+
+add-l : tie.Need-add-l Inv-loop μ-loop
+add-l c = omega arith
 
 loop-less : tie.Need-loop-less Inv-loop μ-loop
 loop-less c = omega arith
 
 loop-again : tie.Need-loop-again Inv-loop μ-loop
-loop-again c = (omega arith, omega arith, omega arith, search column-more)
+loop-again c = (omega arith, search column-more)
 
 same-length : tie.Need-same-length Inv-loop μ-loop
 same-length c = omega arith
@@ -50,10 +48,10 @@ refill-column-spec =
     (tie.spec
     Inv-loop
     μ-loop
-    sub-rows
     loop-holds
-    refill-strip-requires
-    add-t
+    block-from-requires
+    refill-block-requires
+    add-l
     loop-less
     loop-again
     same-length

@@ -1,0 +1,33 @@
+/* call CALL P K R B LOST TIMES: makes a stripe, then runs one call on it TIMES times. bench/run counts its instructions from outside. */
+#include "../include/airsaffron.h"
+
+#include <stdio.h>
+#include <stdlib.h>
+#include <string.h>
+
+static uint8_t data[60 * 60 * 512];
+static uint8_t image[1874176];
+static uint8_t strip[512];
+
+int main(int words, char **word) {
+    if (words != 8) return 2;
+    const char *call = word[1];
+    size_t p = strtoul(word[2], 0, 10), k = strtoul(word[3], 0, 10), r = strtoul(word[4], 0, 10), b = strtoul(word[5], 0, 10);
+    uint64_t lost = strtoull(word[6], 0, 0);
+    unsigned long times = strtoul(word[7], 0, 10);
+    size_t given = k * (p - 1) * b, length = 16 + 4 * k + (k + r) * (p - 1) * b;
+    for (size_t i = 0; i < given; i++) data[i] = (uint8_t)(i * 2654435761u >> 13);
+    for (size_t i = 0; i < b; i++) strip[i] = (uint8_t)(i * 77 + 1);
+    airsaffron_answer answer = airsaffron_make(p, k, r, b, data, given, image, length);
+    for (unsigned long i = 0; i < times && answer.refusal == 0; i++) {
+        if (!strcmp(call, "make")) answer = airsaffron_make(p, k, r, b, data, given, image, length);
+        else if (!strcmp(call, "refill")) answer = airsaffron_refill(image, length);
+        else if (!strcmp(call, "check")) answer = airsaffron_check(image, length);
+        else if (!strcmp(call, "write")) { strip[0]++; answer = airsaffron_write(image, length, 0, 1, (uint32_t)i, strip, b); }
+        else if (!strcmp(call, "rebuild")) answer = airsaffron_rebuild(image, length, lost);
+        else if (!strcmp(call, "restore")) answer = airsaffron_restore(image, length, lost, 0, 1, strip, b);
+        else return 2;
+    }
+    if (answer.refusal != 0) fprintf(stderr, "call: refused %llu\n", (unsigned long long)answer.refusal);
+    return answer.refusal != 0;
+}

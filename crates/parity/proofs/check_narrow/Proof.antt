@@ -1,0 +1,60 @@
+-- `parity::check_narrow` meets its contract.
+-- Assumes nothing.
+use Prim.Native.Nat.{_-_, _≤_}
+use mathlib.Core.Path.{_≡_, refl}
+use native.Mathlib.Omega.{arith}
+use lib.ListN.{length}
+use Rattle.parity.proofs.Blocks.{narrow-asked}
+use Rattle.parity.proofs.Columns.{wrong-none, wrong-more, wrong-fits, wrong-end}
+use Rattle.parity.proofs.check_narrow.Statement.{statement}
+use Rattle.parity.specs.Inner.{wrong-to}
+use Rattle.parity.proofs.check_narrow.Tie as tie
+
+abbrev Inv-loop : tie.InvT-loop
+Inv-loop image q acc₀ word₀ j₀ acc word j = (j ≤ q .r) × (length acc ≡ 976) × (word ≡ wrong-to image q j)
+
+abbrev μ-loop : tie.MeasureT-loop
+μ-loop image q acc₀ word₀ j₀ acc word j = q .r - j
+
+loop-holds : tie.Need-loop-holds Inv-loop μ-loop
+loop-holds c = (omega arith, refl, search wrong-none)
+
+slice-aggregate-check-column : tie.Need-slice-aggregate-check-column Inv-loop μ-loop
+slice-aggregate-check-column c = omega arith
+
+check-column-requires : tie.Need-check-column-requires Inv-loop μ-loop
+check-column-requires c κs = search narrow-asked
+
+shl-word : tie.Need-shl-word Inv-loop μ-loop
+shl-word c = omega arith
+
+add-word : tie.Need-add-word Inv-loop μ-loop
+add-word c = record { fits = search wrong-fits }
+
+add-j : tie.Need-add-j Inv-loop μ-loop
+add-j c = omega arith
+
+loop-less : tie.Need-loop-less Inv-loop μ-loop
+loop-less c = omega arith
+
+loop-again : tie.Need-loop-again Inv-loop μ-loop
+loop-again c = (omega arith, omega arith, search wrong-more)
+
+returns : tie.Need-returns Inv-loop μ-loop
+returns c = search wrong-end
+
+pub check-narrow-spec : {M : Type 1} → statement M
+check-narrow-spec =
+    tie.close
+    (tie.spec
+    Inv-loop
+    μ-loop
+    loop-holds
+    slice-aggregate-check-column
+    check-column-requires
+    shl-word
+    add-word
+    add-j
+    loop-less
+    loop-again
+    returns)
