@@ -19,7 +19,6 @@ pub mod Solves
 pub mod Stored
 pub mod Consulted
 pub mod Composed
-pub mod Outside
 pub mod Lost
 pub mod Restored
 pub mod Inverted

@@ -3,19 +3,15 @@
 -- Assumes nothing.
 use Prim.Native.Nat.{ℕ, zero, suc, _<_, _≤_}
 use mathlib.Core.Bool.{Bool, true, false}
-use mathlib.Core.List.{List, [], _∷_, map, map-map}
-use mathlib.Core.Path.{_≡_, refl, sym, ap, _∙_, fun-ext, ap₂}
+use mathlib.Core.List.{List, [], _∷_, map}
+use mathlib.Core.Path.{_≡_, refl, sym, ap, _∙_}
 use native.Mathlib.Omega.{arith}
 use lib.Dec.{T}
 use lib.ListN.{length, getD, length-map}
-use Rattle.laws.proofs.Tab.{table-is, table-ext, map-table}
-use Rattle.laws.proofs.Xor.{⊕-assoc}
-use Rattle.laws.specs.Part.{table}
 use Rattle.laws.specs.Xor.{_⊕_}
-use Rattle.algebra.proofs.Composed.{parity-words, present-words, row-plus, acting-xor, composed-length}
 use Rattle.algebra.proofs.Consulted.{lost-column}
 use Rattle.algebra.proofs.Encode.{decode-encode}
-use Rattle.algebra.proofs.Lost.{same-length, same-lost, rising-lower, rising-lost, rising-off, rising-distinct, syndromes, all-lost, parity-split}
+use Rattle.algebra.proofs.Lost.{same-length, same-lost, rising-lower, rising-lost, rising-off, rising-distinct, syndromes, all-lost}
 use Rattle.algebra.proofs.Stored.{lanes-good, lanes-agree, agree-lanes, lost-map, encode-good}
 use Rattle.algebra.specs.Cauchy.{Same, Off, Cross, row}
 use Rattle.algebra.specs.Code.{plus, none, encode, decode}
@@ -23,8 +19,7 @@ use Rattle.algebra.specs.Column.{lane}
 use Rattle.algebra.specs.Divide.{over}
 use Rattle.algebra.specs.Lane.{D, Apart}
 use Rattle.algebra.specs.Prime.{odd-prime}
-use Rattle.algebra.specs.Recovery.{lost, kept, with, Rising, Agree, entryOf, wordsOf, freed, acting, composedOf}
-use Rattle.algebra.specs.Word.{inverseOf}
+use Rattle.algebra.specs.Recovery.{lost, kept, with, Rising, Agree, entryOf, wordsOf, freed, acting}
 
 pub rising-kept : (lo hi : ℕ) (m : List Bool) (l : List ℕ) → Rising lo hi l → Rising lo hi (kept m l)
 rising-kept lo hi [] l r = r
@@ -122,50 +117,3 @@ module _ (n : ℕ) where
     recovered u ms h q hq =
         sym (agree-at (map (lane n) (lost m ds)) (lost m ds) (agree-lanes n (lost m ds) (map (lane n) (lost m ds)) refl) u q hq)
         ∙ recovered-lane u ms h q
-
-    -- the lost lanes, Ms being the rows of the matrix
-    lost-lanes : (Ms : List (List ℕ)) → length Ms ≡ length (lost m ds)
-        → ((u v : ℕ) → u < length Ms → v < length xs → getD (getD Ms u []) v 0 ≡ entryOf (suc n) xs (lost m ys) u v)
-        → map (lane n) (lost m ds) ≡ map (λ (ms : List ℕ). plus (acting n ms (map (lane n) Ps)) (acting n (wordsOf (suc n) xs ms (kept m ys)) (map (lane n) (kept m ds)))) Ms
-    lost-lanes Ms g h =
-        let f : List ℕ → ℕ → ℕ = λ ms. plus (acting n ms (map (lane n) Ps)) (acting n (wordsOf (suc n) xs ms (kept m ys)) (map (lane n) (kept m ds))) in
-        let L : List (ℕ → ℕ) = map (lane n) (lost m ds) in
-        sym (table-is L none)
-        ∙ ap (λ (k : ℕ). table k (λ u. getD L u none)) (length-map (lost m ds) (lane n) ∙ sym g)
-        ∙ table-ext (length Ms) (λ u. getD L u none) (λ u. f (getD Ms u [])) (λ u k. fun-ext (recovered-lane u (getD Ms u []) (λ v. h u v k)))
-        ∙ sym (map-table f (length Ms) (λ u. getD Ms u [])) ∙ ap (map f) (table-is Ms [])
-
-    -- "lost parity is then worked out from the data": each coefficient of parity x is a sum over the consulted columns of word · column
-    pub lost-parity : (x : ℕ) (Ms : List (List ℕ)) → length Ms ≡ length (lost m ds)
-        → ((u v : ℕ) → u < length Ms → v < length xs → getD (getD Ms u []) v 0 ≡ entryOf (suc n) xs (lost m ys) u v) → (q : ℕ)
-        → row plus none (D n) (over n) x ys (map (lane n) ds) q
-        ≡ acting n (composedOf (suc n) x (lost m ys) (length xs) Ms) (map (lane n) Ps) q
-        ⊕ acting n
-        (with _⊕_ (composedOf (suc n) x (lost m ys) (length (kept m ys)) (map (λ (ms : List ℕ). wordsOf (suc n) xs ms (kept m ys)) Ms))
-        (map (inverseOf (suc n) x) (kept m ys)))
-        (map (lane n) (kept m ds)) q
-    lost-parity x Ms g h q =
-        let ss : List (ℕ → ℕ) = map (lane n) ds in
-        let K : List (ℕ → ℕ) = map (lane n) (kept m ds) in
-        let Ws : List (List ℕ) = map (λ (ms : List ℕ). wordsOf (suc n) xs ms (kept m ys)) Ms in
-        let f : List ℕ → ℕ → ℕ = λ ms. acting n ms (map (lane n) Ps) in
-        let k : List ℕ → ℕ → ℕ = λ ms. acting n (wordsOf (suc n) xs ms (kept m ys)) K in
-        let lk : length K ≡ length (kept m ys) = length-map (kept m ds) (lane n) ∙ sym (kept-length m ys ds e) in
-        let A : ℕ = acting n (composedOf (suc n) x (lost m ys) (length xs) Ms) (map (lane n) Ps) q in
-        let ws : List ℕ = composedOf (suc n) x (lost m ys) (length (kept m ys)) Ws in
-        let is : List ℕ = map (inverseOf (suc n) x) (kept m ys) in
-        parity-split n x m ys ss (same-length ys ss (e ∙ sym (length-map ds (lane n)))) q
-        ∙ ap₂ _⊕_
-        (ap (λ (t : List (ℕ → ℕ)). row plus none (D n) (over n) x (lost m ys) t q) (lost-map n m ds ∙ lost-lanes Ms g h)
-        ∙ row-plus n x (lost m ys) f k Ms q
-        ∙ ap₂ _⊕_
-        (parity-words n x (lost m ys) Ms (map (lane n) Ps) (lanes-good n Ps) q
-        ∙ ap (λ (i : ℕ). acting n (composedOf (suc n) x (lost m ys) i Ms) (map (lane n) Ps) q) (sym lanes-length))
-        (ap (λ (t : List (ℕ → ℕ)). row plus none (D n) (over n) x (lost m ys) t q)
-        (sym (map-map (λ (ws : List ℕ). acting n ws K) (λ (ms : List ℕ). wordsOf (suc n) xs ms (kept m ys)) Ms))
-        ∙ parity-words n x (lost m ys) Ws K (lanes-good n (kept m ds)) q
-        ∙ ap (λ (i : ℕ). acting n (composedOf (suc n) x (lost m ys) i Ws) K q) lk))
-        (ap (λ (t : List (ℕ → ℕ)). row plus none (D n) (over n) x (kept m ys) t q) (kept-map m ds) ∙ present-words n x (kept m ys) K q)
-        ∙ ⊕-assoc A (acting n ws K q) (acting n is K q)
-        ∙ ap (λ (t : ℕ). A ⊕ t)
-        (sym (acting-xor n ws is K q (composed-length (suc n) x (lost m ys) (length (kept m ys)) Ws ∙ sym (length-map (kept m ys) (inverseOf (suc n) x)))))

@@ -4,24 +4,23 @@ use Prim.Native.Nat.{ℕ, zero, suc, _+_, _-_, _*_, _/_, _%_, _^_, _<_, _≤_}
 use mathlib.Core.List.{List}
 use mathlib.Core.Logic.{_≢_}
 use mathlib.Core.Path.{_≡_, refl, sym, ap, ap₂, subst, _∙_}
-use native.Mathlib.Nat.{mod-eq-of-lt, mod-lt, zero-add, add-comm, add-assoc, mul-le-mul}
+use native.Mathlib.Nat.{mod-eq-of-lt, mod-lt, zero-add, add-comm, mul-le-mul}
 use native.Mathlib.Omega.{arith}
-use lib.Arith.{digits-div, digits-mod}
 use lib.Bits.{bitXor}
 use lib.ListN.{length, getD, set, drop, drop-of-length-le}
 use lib.Pow.{pow-mono}
 use lib.Seq.{drop-cons}
 use Rattle.laws.proofs.Bit.{pack-lt, bit-digit}
-use Rattle.laws.proofs.Patch.{patch-none, patch-more, patch-join, patch-over, patch-by, patch-same}
-use Rattle.laws.proofs.Rows.{row-in, next-row}
+use Rattle.laws.proofs.Patch.{patch-more, patch-over, patch-by, patch-same}
+use Rattle.laws.proofs.Rows.{row-in}
 use Rattle.laws.proofs.Xor.{⊕-assoc, ⊕-zero, ⊕-lt}
-use Rattle.laws.specs.Bit.{bit, pack, weight}
+use Rattle.laws.specs.Bit.{bit, pack}
 use Rattle.laws.specs.Patch.{Patched}
 use Rattle.laws.specs.Sum.{pick, sum}
 use Rattle.laws.specs.Xor.{_⊕_}
 use Rattle.algebra.specs.Word.{pred}
 use Rattle.engine.specs.Mask.{takesOf, maskOf}
-use Rattle.engine.specs.Strips.{added, gathered, scattered, taken, Strip, Added, Rows, Scattered, Columns, onto}
+use Rattle.engine.specs.Strips.{added, gathered, taken, Strip, Added, Rows, Columns, onto}
 
 -- ---- the mask
 
@@ -132,47 +131,6 @@ pub gather-strip : (src s t : List ℕ) (at pos rows k : ℕ) (f : ℕ → ℕ) 
 gather-strip src s t at pos rows k f R d e h = record {
   there = omega (arith, d .len);
   here = omega (arith, R .inside, row-in k rows (length s) h);
-}
-
--- ---- one strip into the rows of a mask
-
--- byte i of row k
-pub scattered-row : (s strip : List ℕ) (at b mask k i : ℕ) → i < b → scattered s at b mask strip (k * b + i) ≡ getD s (at + k * b + i) 0 ⊕ pick (bit mask k) (getD strip i 0)
-unfolding scattered
-scattered-row s strip at b mask k i h = rw (digits-div k h, digits-mod k h, add-assoc)
-
-pub scatter-none : (s strip : List ℕ) (at mask : ℕ) → Scattered s s strip at 0 mask 0
-unfolding weight
-scatter-none s strip at mask =
-    let z : 0 ≡ 0 * length strip = omega arith in
-    record { count = refl; bytes = subst (λ (m : ℕ). Patched s s at m (scattered s at (length strip) mask strip)) z (patch-none s at (scattered s at (length strip) mask strip)) }
-
-pub scatter-more : (s t u strip : List ℕ) (at pos mask k c x : ℕ) → Scattered s t strip at k mask c → pos ≡ at + k * length strip
-    → Added t u strip pos 0 (length strip) (mask / 2 ^ k) x → Scattered s u strip at (k + 1) mask (c + x)
-unfolding weight added bit
-scatter-more s t u strip at pos mask k c x S e a =
-    let z : suc k ≡ k + 1 = omega arith in
-    let b : ℕ = length strip in
-    let f : ℕ → ℕ = scattered s at b mask strip in
-    let r : Patched t u (at + k * b) b (added t (at + k * b) strip 0 (mask / 2 ^ k)) =
-    subst (λ (j : ℕ). Patched t u j b (added t j strip 0 (mask / 2 ^ k))) e (a .bytes) in
-    record {
-      count = ap₂ (λ (y v : ℕ). y + v) (S .count) (a .answer) ∙ ap (weight mask) z;
-      bytes = subst (λ (m : ℕ). Patched s u at m f) (sym (next-row k b))
-          (patch-join s t u at (k * b) b f (added t (at + k * b) strip 0 (mask / 2 ^ k)) (S .bytes) r
-          (λ i h.
-          ap₂ (λ (y j : ℕ). y ⊕ pick (bit mask k) (getD strip j 0)) (S .bytes .above (at + k * b + i) (omega arith)) (zero-add i)
-          ∙ sym (scattered-row s strip at b mask k i h)));
-    }
-
-pub scatter-end : (s t strip : List ℕ) (at mask k rows c : ℕ) → Scattered s t strip at k mask c → k ≤ rows → rows ≤ k → Scattered s t strip at rows mask c
-scatter-end s t strip at mask k rows c S h l = let z : k ≡ rows = omega arith in subst (λ (m : ℕ). Scattered s t strip at m mask c) z S
-
-pub scatter-strip : (s t strip : List ℕ) (at pos rows k mask c : ℕ) → Rows s strip at rows → Scattered s t strip at k mask c → pos ≡ at + k * length strip → k < rows
-    → Strip t strip pos 0 (length strip)
-scatter-strip s t strip at pos rows k mask c R S e h = record {
-  there = omega (arith, R .inside, S .bytes .len, row-in k rows (length strip) h);
-  here = omega arith;
 }
 
 -- ---- the columns of a list of words

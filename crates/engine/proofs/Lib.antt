@@ -1,3 +1,4 @@
 pub mod Laws
+pub mod Lanes
 pub mod Masked
 pub mod Bytes

@@ -2,6 +2,7 @@
 -- Assumes nothing.
 use Prim.Native.Nat.{ℕ, _+_, _-_, _*_, _/_, _%_, _<_, _≤_}
 use mathlib.Core.List.{List, [], _∷_}
+use mathlib.Core.Logic.{_≢_}
 use mathlib.Core.Path.{_≡_}
 use lib.ListN.{length, getD}
 use Rattle.laws.specs.Bit.{bit, weight}
@@ -16,6 +17,10 @@ use Rattle.engine.specs.Mask.{maskOf}
 -- byte i of s at `to`, with byte i of src at `from` added where `on` is odd
 unfoldable pub added : List ℕ → ℕ → List ℕ → ℕ → ℕ → ℕ → ℕ
 added s to src from on i = getD s (to + i) 0 ⊕ pick (on % 2) (getD src (from + i) 0)
+
+-- byte i of src at `from`
+unfoldable pub loaded : List ℕ → ℕ → ℕ → ℕ
+loaded src from i = getD src (from + i) 0
 
 -- byte i of s, with f i added
 unfoldable pub onto : List ℕ → (ℕ → ℕ) → ℕ → ℕ
@@ -50,6 +55,20 @@ scattered s at b mask strip o = getD s (at + o) 0 ⊕ pick (bit mask (o / b)) (g
 pub record Scattered (s t strip : List ℕ) (at rows mask x : ℕ) : Type 0 where
   pub count : x ≡ weight mask rows
   pub bytes : Patched s t at (rows * length strip) (scattered s at (length strip) mask strip)
+
+-- lanes l to l + w, at most 128, of a strip whose rows lie in s
+pub record Lanes (s strip : List ℕ) (at rows l w : ℕ) : Type 0 where
+  pub inside : at + rows * length strip ≤ length s
+  pub few : rows ≤ 60
+  pub within : l + w ≤ length strip
+  pub narrow : w ≤ 128
+
+-- s is now t: lanes l to l + w of the strip were added to the rows at `at` that the mask names, and every other byte is as it was
+pub record Laned (s t strip : List ℕ) (at rows mask l w : ℕ) : Type 0 where
+  pub len : length t ≡ length s
+  pub inner : (q x : ℕ) → q < rows → l ≤ x → x < l + w
+      → getD t (at + q * length strip + x) 0 ≡ getD s (at + q * length strip + x) 0 ⊕ pick (bit mask q) (getD strip x 0)
+  pub other : (o : ℕ) → ((q x : ℕ) → q < rows → l ≤ x → x < l + w → o ≢ at + q * length strip + x) → getD t o 0 ≡ getD s o 0
 
 -- ---- the rows of many columns
 

@@ -1,12 +1,13 @@
 // The two moves on strips that every call is made of, and the rows that a word takes of a column.
 ghost use mathlib.Core.Path.{_≡_};
-ghost use Prim.Native.Nat.{_+_, _<_, _≤_};
+ghost use Prim.Native.Nat.{_+_, _%_, _^_, _<_, _≤_};
 ghost use lib.ListN.{length};
-ghost use Rattle.laws.specs.Bit.{bit};
+ghost use Rattle.laws.specs.Bit.{bit, weight};
 ghost use Rattle.laws.specs.Part.{put, tab};
 ghost use Rattle.laws.specs.Patch.{Patched};
+ghost use Rattle.laws.specs.Xor.{_⊕_};
 ghost use Rattle.engine.specs.Mask.{takesOf, maskOf};
-ghost use Rattle.engine.specs.Strips.{added, onto, gathered, taken, Strip, Added, Rows, Scattered, Columns};
+ghost use Rattle.engine.specs.Strips.{added, loaded, onto, gathered, taken, Strip, Added, Rows, Lanes, Laned, Scattered, Columns};
 
 // Bit i of w.
 fn coefficient(w: u64, i: usize) -> u64
@@ -79,21 +80,99 @@ pub fn gather(src: &[u8], at: usize, rows: usize, mask: u64, out: &mut [u8])
     }
 }
 
+// Puts n bytes of src at `from` at the front of run.
+fn load(run: &mut [u8], src: &[u8], from: usize, n: usize)
+    requires { ⌜ Strip (now run) (now src) 0 from n ⌝ }
+    ensures { λ _. ⌜ Patched (now (run .entry)) (now (run .exit)) 0 n (loaded (now (src .entry)) from) ⌝ }
+{
+    let mut i: usize = 0;
+    while i < n {
+        run[i] = src[from + i];
+        i += 1;
+    }
+}
+
+// The rows that the mask names, of the first `rows`.
+fn cut(mask: u64, rows: usize) -> u64
+    requires { ⌜ rows ≤ 60 ⌝ }
+    ensures { λ r. ⌜ r ≡ mask % 2 ^ rows ⌝ }
+{
+    mask % (1 << rows)
+}
+
+// The first row that a mask names.
+fn first(mask: u64) -> usize
+    requires { ⌜ 0 < mask ⌝ }
+    ensures { λ r. ⌜ bit mask r ≡ 1 ⌝ }
+{
+    u64::trailing_zeros(mask) as usize
+}
+
+// A mask with one row turned over.
+fn flip(mask: u64, q: usize) -> u64
+    requires { ⌜ q < 64 ⌝ }
+    ensures { λ r. ⌜ r ≡ mask ⊕ 2 ^ q ⌝ }
+{
+    mask ^ (1 << q)
+}
+
+// XORs lanes l to l + w of the strip into the rows that the mask names, of the rows of s at `at`.
+fn add_lanes(s: &mut [u8], at: usize, rows: usize, mask: u64, strip: &[u8], l: usize, w: usize)
+    requires { ⌜ Lanes (now s) (now strip) at rows l w ⌝ }
+    ensures { λ _. ⌜ Laned (now (s .entry)) (now (s .exit)) (now (strip .entry)) at rows mask l w ⌝ }
+{
+    let b = strip.len();
+    let from = at + l;
+    let mut run = [0u8; 128];
+    load(&mut run, strip, l, w);
+    let mut left = cut(mask, rows);
+    while left > 0 {
+        let q = first(left);
+        add(s, from + q * b, &run, 0, w);
+        left = flip(left, q);
+    }
+}
+
+// The same; a width of 128 stands in the code, so that its lanes stay in registers.
+fn add_block(s: &mut [u8], at: usize, rows: usize, mask: u64, strip: &[u8], l: usize, w: usize)
+    requires { ⌜ Lanes (now s) (now strip) at rows l w ⌝ }
+    ensures { λ _. ⌜ Laned (now (s .entry)) (now (s .exit)) (now (strip .entry)) at rows mask l w ⌝ }
+{
+    if w == 128 {
+        add_lanes(s, at, rows, mask, strip, l, 128)
+    } else {
+        add_lanes(s, at, rows, mask, strip, l, w)
+    }
+}
+
+// n, but no more than 128.
+fn width(n: usize) -> usize
+    ensures { λ r. ⌜ (r ≤ n) × (r ≤ 128) × (0 < n → 0 < r) ⌝ }
+{
+    if n < 128 { n } else { 128 }
+}
+
+// How many rows the mask names, of the first `rows`.
+fn named(mask: u64, rows: usize) -> u64
+    requires { ⌜ rows ≤ 60 ⌝ }
+    ensures { λ r. ⌜ r ≡ weight mask rows ⌝ }
+{
+    u64::count_ones(cut(mask, rows)) as u64
+}
+
 // XORs the strip into the rows that the mask names, of the rows of s at `at`; gives how many these are.
 pub fn scatter(s: &mut [u8], at: usize, rows: usize, mask: u64, strip: &[u8]) -> u64
     requires { ⌜ Rows (now s) (now strip) at rows ⌝ }
     ensures { λ r. ⌜ Scattered (now (s .entry)) (now (s .exit)) (now (strip .entry)) at rows mask r ⌝ }
 {
     let b = strip.len();
-    let mut pos = at;
-    let mut count = 0;
-    let mut t: usize = 0;
-    while t < rows {
-        count += add_where(s, pos, strip, 0, b, mask >> t);
-        pos += b;
-        t += 1;
+    let mut l: usize = 0;
+    while l < b {
+        let w = width(b - l);
+        add_block(s, at, rows, mask, strip, l, w);
+        l += w;
     }
-    count
+    named(mask, rows)
 }
 
 // XORs row q of the sum of word · column over the columns of src at `ats` into out.

@@ -7,5 +7,4 @@ pub mod Tab
 pub mod Part
 pub mod Patch
 pub mod Rows
-pub mod Lent
 pub mod Number

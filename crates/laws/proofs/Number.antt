@@ -40,17 +40,6 @@ pub put32-patched : (s : List ℕ) (at v : ℕ) → at + 4 ≤ length s → Patc
 unfolding put32
 put32-patched s at v h = patched s (put32 s at v) at 4 (byte v) h refl
 
-u16-same : (s t : List ℕ) (at : ℕ) → getD t at 0 ≡ getD s at 0 → getD t (at + 1) 0 ≡ getD s (at + 1) 0 → u16 t at ≡ u16 s at
-u16-same s t at e f = omega arith
-
--- a number that a patch does not reach
-module _ (s t : List ℕ) (at n : ℕ) (f : ℕ → ℕ) (d : Patched s t at n f) (a : ℕ) where
-  pub u16-below : a + 2 ≤ at → u16 t a ≡ u16 s a
-  u16-below h = u16-same s t a (d .below a (omega arith)) (d .below (a + 1) (omega arith))
-
-  pub u16-above : at + n ≤ a → u16 t a ≡ u16 s a
-  u16-above h = u16-same s t a (d .above a h) (d .above (a + 1) (omega arith))
-
 -- four digits make the number: each step is linear, and the four together are not found
 join : (v x y z a b c d : ℕ) → 256 * x + a ≡ v → 256 * y + b ≡ x → 256 * z + c ≡ y → d ≡ z → a + 256 * b + 65536 * (c + 256 * d) ≡ v
 join v x y z a b c d e f g h = omega arith

@@ -12,12 +12,5 @@ row-in j k n h = subst (λ (x : ℕ). x ≤ k * n) (suc-mul j n) (mul-le-mul-rig
 pub next-row : (j n : ℕ) → (j + 1) * n ≡ j * n + n
 next-row j n = rw (add-one, suc-mul)
 
--- a position that a loop moves by n a turn
-pub row-step : (j n from pos : ℕ) → pos ≡ from + j * n → pos + n ≡ from + (j + 1) * n
-row-step j n from pos e = omega (arith, next-row j n)
-
 pub row-fits : (j k n from pos len : ℕ) → j < k → pos ≡ from + j * n → from + k * n ≤ len → len < 2 ^ 64 → pos + n < 2 ^ 64
 row-fits j k n from pos len h e f l = omega (arith, row-in j k n h)
-
-pub row-room : (j k n from pos len len′ : ℕ) → j < k → pos ≡ from + j * n → from + k * n ≤ len → len′ ≡ len → pos + n ≤ len′
-row-room j k n from pos len len′ h e f l = omega (arith, row-in j k n h)

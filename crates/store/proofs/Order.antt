@@ -25,10 +25,6 @@ state-path {s} {z} a b c =
     λ d. record { revision = p d; held = q d; parity = r d }
 
 module _ (R : Rules) where
-  pub verdict-unsound : (n m : ℕ) (w : Write) → sound R w ≡ false → verdict R n w ≡ verdict R m w
-  unfolding verdict
-  verdict-unsound n m w e = rw e
-
   pub reply-unsound : (n m : ℕ) (w : Write) → sound R w ≡ false → reply R n w ≡ reply R m w
   unfolding reply accepts verdict
   reply-unsound n m w e = rw e

@@ -1,4 +1,4 @@
--- P12 and P13 of document 01, and the ends of STALE and AHEAD, by computation.
+-- The ends of STALE and AHEAD, and whole writes to the image I, by computation.
 -- Assumes nothing.
 use Prim.Native.Nat.{ℕ}
 use mathlib.Core.List.{_∷_, [], List}
@@ -23,29 +23,6 @@ use Rattle.write.specs.Revision.{distance, judged, renewed}
 use Rattle.write.specs.Written.{writeOf, write-read, write-sound, write-judged, written, moved, difference}
 use Rattle.write.specs.declared.Age.the-variants.{Current, Older, Newer}
 use Rattle.write.specs.declared.Written.the-variants.{Accepted, Refused}
-
--- "revision 4294967295 with that base: new revision 0"
-pub last-current : judged 4294967295 4294967295 ≡ Current
-unfolding judged distance
-last-current = refl
-
-pub last-renewed : renewed 4294967295 ≡ 0
-unfolding renewed
-last-renewed = refl
-
--- "revision 0, base 4294967295: STALE"
-pub wrapped-older : judged 0 4294967295 ≡ Older
-unfolding judged distance
-wrapped-older = refl
-
--- "the same with base 6: STALE", "base 8: AHEAD"
-pub six-older : judged 7 6 ≡ Older
-unfolding judged distance
-six-older = refl
-
-pub eight-newer : judged 7 8 ≡ Newer
-unfolding judged distance
-eight-newer = refl
 
 -- "1 to 2^31 is STALE; above is AHEAD"
 pub half-older : judged 2147483648 0 ≡ Older
@@ -75,7 +52,3 @@ ninth = refl
 pub tenth : writeOf example-image 1 1 6 (0 ∷ []) ≡ record { answer = Refused Stale; image = example-image }
 unfolding writeOf write-read write-sound write-judged readOf withParams sectionsOf checkedOf admitted-prime admitted-shape admitted-strip odd-prime below judged distance
 tenth = refl
-
-pub eleventh : writeOf example-image 1 1 8 (0 ∷ []) ≡ record { answer = Refused Ahead; image = example-image }
-unfolding writeOf write-read write-sound write-judged readOf withParams sectionsOf checkedOf admitted-prime admitted-shape admitted-strip odd-prime below judged distance
-eleventh = refl

@@ -1,44 +1,43 @@
 -- `engine::scatter` meets its contract.
 -- Assumes nothing.
-use Prim.Native.Nat.{_+_, _-_, _*_, _≤_}
-use mathlib.Core.Path.{_≡_}
+use Prim.Native.Nat.{_-_, _≤_}
 use native.Mathlib.Omega.{arith}
 use lib.ListN.{length}
-use Rattle.laws.proofs.Rows.{row-fits}
-use Rattle.engine.proofs.Laws.{scatter-none, scatter-more, scatter-end, scatter-strip}
+use borrow.Author.Needs.{needs}
+use Rattle.engine.proofs.Lanes.{laned-none, scatter-lanes, laned-more, scatter-end, scatter-less}
 use Rattle.engine.proofs.scatter.Statement.{statement}
-use Rattle.engine.specs.Strips.{Scattered}
+use Rattle.engine.specs.Strips.{Laned}
 use Rattle.engine.proofs.scatter.Tie as tie
 
 abbrev Inv-loop : tie.InvT-loop
-Inv-loop s₀ at rows mask strip b pos₀ count₀ t₀ s pos count t = (t ≤ rows) × (pos ≡ at + t * length strip) × (count ≤ t) × Scattered s₀ s strip at t mask count
+Inv-loop s₀ at rows mask strip b l₀ s l = (l ≤ length strip) × Laned s₀ s strip at rows mask 0 l
 
 abbrev μ-loop : tie.MeasureT-loop
-μ-loop s₀ at rows mask strip b pos₀ count₀ t₀ s pos count t = rows - t
+μ-loop s₀ at rows mask strip b l₀ s l = length strip - l
 
 loop-holds : tie.Need-loop-holds Inv-loop μ-loop
-loop-holds c = (omega arith, omega arith, omega arith, search scatter-none)
+loop-holds c = (omega arith, search laned-none)
 
-shr-add-where : tie.Need-shr-add-where Inv-loop μ-loop
-shr-add-where c = omega arith
+sub-width : tie.Need-sub-width Inv-loop μ-loop
+sub-width c = omega arith
 
-add-where-requires : tie.Need-add-where-requires Inv-loop μ-loop
-add-where-requires c κs = search scatter-strip
+width-requires : tie.Need-width-requires Inv-loop μ-loop
+width-requires c κs = search needs
 
-add-count : tie.Need-add-count Inv-loop μ-loop
-add-count c = omega arith
+add-block-requires : tie.Need-add-block-requires Inv-loop μ-loop
+add-block-requires c κs = search scatter-lanes
 
-add-pos : tie.Need-add-pos Inv-loop μ-loop
-add-pos c = record { fits = search row-fits }
-
-add-t : tie.Need-add-t Inv-loop μ-loop
-add-t c = omega arith
+add-l : tie.Need-add-l Inv-loop μ-loop
+add-l c = omega arith
 
 loop-less : tie.Need-loop-less Inv-loop μ-loop
-loop-less c = omega arith
+loop-less c = search scatter-less
 
 loop-again : tie.Need-loop-again Inv-loop μ-loop
-loop-again c = (omega arith, omega arith, omega arith, search scatter-more)
+loop-again c = (omega arith, search laned-more)
+
+named-requires : tie.Need-named-requires Inv-loop μ-loop
+named-requires c κs = omega arith
 
 same-length : tie.Need-same-length Inv-loop μ-loop
 same-length c = omega arith
@@ -53,12 +52,12 @@ scatter-spec =
     Inv-loop
     μ-loop
     loop-holds
-    shr-add-where
-    add-where-requires
-    add-count
-    add-pos
-    add-t
+    sub-width
+    width-requires
+    add-block-requires
+    add-l
     loop-less
     loop-again
+    named-requires
     same-length
     returns)
