@@ -1,6 +1,6 @@
 -- What the functions on lanes of a strip and on the rows of a mask owe, over plain numbers and lists.
 -- Assumes nothing.
-use Prim.Native.Nat.{ℕ, zero, suc, _+_, _-_, _*_, _/_, _%_, _^_, _<_, _≤_}
+use Prim.Native.Nat.{ℕ, zero, suc, min, _+_, _-_, _*_, _/_, _%_, _^_, _<_, _≤_}
 use mathlib.Core.List.{List}
 use mathlib.Core.Logic.{_≢_}
 use mathlib.Core.Path.{_≡_, refl, sym, ap, ap₂, subst, _∙_}
@@ -8,7 +8,7 @@ use native.Mathlib.Decide.{decLt, ℕ-discrete}
 use native.Mathlib.Nat.{mod-eq-of-lt, mod-lt, zero-add, add-comm, mul-le-mul, div-add-mod', div-div-eq-div-mul, div-eq-of-lt, div-one, mod-one, pow-suc, pow-succ'}
 use native.Mathlib.Omega.{arith}
 use lib.Arith.{digits-mod}
-use lib.Bits.{bitXor, bitAnd, and-mask, xor-add-and, xor-block, xor-zero-r}
+use lib.Bits.{bitXor, bitAnd, differ, and-mask, and-self, and-step, xor-add-and, xor-block, xor-step, xor-zero-r}
 use lib.Count.{trailingZeros, trailing-le, ones-le, under, ones, onesIn, ones-cat}
 use lib.ListN.{length, getD, set}
 use lib.Pow.{pow-mono, pow-pos, high, mod-pow-add}
@@ -25,7 +25,7 @@ use Rattle.engine.specs.Strips.{added, loaded, scattered, Strip, Rows, L
 
 -- ---- the rows of a mask
 
-pub one-at : (k : ℕ) → k < 64 → 1 * 2 ^ k % 2 ^ 64 ≡ 2 ^ k
+one-at : (k : ℕ) → k < 64 → 1 * 2 ^ k % 2 ^ 64 ≡ 2 ^ k
 one-at k h =
     let l : k ≤ 63 = omega arith in
     let g : 2 ^ k ≤ 2 ^ 63 = pow-mono l in
@@ -39,12 +39,8 @@ one-some k h = let l : k < 64 = omega arith in omega (arith, one-at k l, pow-pos
 pub cut-is : (m k : ℕ) → k ≤ 60 → m % (1 * 2 ^ k % 2 ^ 64) ≡ m % 2 ^ k
 cut-is m k h = let l : k < 64 = omega arith in ap (λ (x : ℕ). m % x) (one-at k l)
 
-pub flip-is : (m q : ℕ) → q < 64 → bitXor m (1 * 2 ^ q % 2 ^ 64) ≡ m ⊕ 2 ^ q
-unfolding _⊕_
-flip-is m q h = ap (bitXor m) (one-at q h)
-
 -- a bit that is set lies below the length of its number
-pub bit-in : (u i k : ℕ) → u < 2 ^ k → bit u i ≡ 1 → i < k
+bit-in : (u i k : ℕ) → u < 2 ^ k → bit u i ≡ 1 → i < k
 unfolding bit
 bit-in u i k h e =
     elim (decLt i k) [
@@ -66,22 +62,16 @@ half-lt x y h = omega arith
 odd-is : (x r : ℕ) → x % 2 ≡ suc r → x % 2 ≡ 1
 odd-is x r e = omega arith
 
-first-bit : (d x : ℕ) → 0 < x → x < 2 ^ d → bit x (trailingZeros d x) ≡ 1
+lowest-bit : (d x : ℕ) → 0 < x → x < 2 ^ d → bit x (trailingZeros d x) ≡ 1
 unfolding trailingZeros bit
-first-bit zero x h k = absurd (omega arith)
-first-bit (suc d) x h k = go (x % 2) refl (λ (e : x % 2 ≡ 0). first-bit d (x / 2) (half-some x h e) (half-lt x (2 ^ d) (subst (λ (y : ℕ). x < y) (pow-suc 2 d) k)))
+lowest-bit zero x h k = absurd (omega arith)
+lowest-bit (suc d) x h k = go (x % 2) refl (λ (e : x % 2 ≡ 0). lowest-bit d (x / 2) (half-some x h e) (half-lt x (2 ^ d) (subst (λ (y : ℕ). x < y) (pow-suc 2 d) k)))
   where
     go : (r : ℕ) → x % 2 ≡ r → (x % 2 ≡ 0 → x / 2 / 2 ^ trailingZeros d (x / 2) % 2 ≡ 1) → x / 2 ^ under r (trailingZeros d (x / 2)) % 2 ≡ 1
     go zero e ih =
         let t = trailingZeros d (x / 2) in
         ap (λ (y : ℕ). y % 2) (ap (λ (y : ℕ). x / y) (pow-succ' 2 t) ∙ sym (div-div-eq-div-mul x 2 (2 ^ t))) ∙ ih e
     go (suc r) e ih = ap (λ (y : ℕ). y % 2) (div-one x) ∙ odd-is x r e
-
-pub first-is : (x : ℕ) → 0 < x → x < 2 ^ 64 → bit x (trailingZeros 64 x) ≡ 1
-first-is x h k = first-bit 64 x h k
-
-pub first-low : (x q k : ℕ) → x < 2 ^ k → k ≤ 60 → bit x q ≡ 1 → q < 64
-first-low x q k h l e = omega (arith, bit-in x q k h e)
 
 pub cut-lt : (m k x : ℕ) → x ≡ m % 2 ^ k → x < 2 ^ k
 cut-lt m k x e = subst (λ (y : ℕ). y < 2 ^ k) (sym e) (mod-lt m (pow-pos k))
@@ -112,7 +102,7 @@ flip-bit x q e = bit-xor x (2 ^ q) q ∙ ap₂ (λ (a b : ℕ). a ⊕ b) e (powe
 flip-rest : (x q i : ℕ) → i ≢ q → bit (x ⊕ 2 ^ q) i ≡ bit x i
 flip-rest x q i h = bit-xor x (2 ^ q) i ∙ ap (λ (b : ℕ). bit x i ⊕ b) (power-rest q i h) ∙ ⊕-zero (bit x i)
 
-pub flip-less : (x q : ℕ) → bit x q ≡ 1 → x ⊕ 2 ^ q < x
+flip-less : (x q : ℕ) → bit x q ≡ 1 → x ⊕ 2 ^ q < x
 unfolding bit _⊕_
 flip-less x q e =
     let m : ℕ = x / 2 ^ q in
@@ -126,14 +116,64 @@ flip-less x q e =
     let d : m * 2 ^ q ≡ y * 2 ^ q + 2 ^ q = ap (λ (z : ℕ). z * 2 ^ q) (sym f) ∙ next-row y (2 ^ q) in
     omega (arith, pow-pos q)
 
-pub left-less : (x y q : ℕ) → bit x q ≡ 1 → y ≡ x ⊕ 2 ^ q → y < x
-left-less x y q e f = subst (λ (z : ℕ). z < x) (sym f) (flip-less x q e)
+-- the first row that a mask of k rows names
+module _ (x q k : ℕ) (some : 0 < x) (small : x < 2 ^ k) (few : k ≤ 60) (e : q ≡ trailingZeros 64 x) where
+  first-bit : bit x q ≡ 1
+  first-bit =
+      let n : k ≤ 64 = omega arith in
+      let l : x < 2 ^ 64 = omega (arith, pow-mono n) in
+      ap (bit x) e ∙ lowest-bit 64 x some l
 
-pub left-small : (x y q k : ℕ) → x < 2 ^ k → bit x q ≡ 1 → y ≡ x ⊕ 2 ^ q → y < 2 ^ k
-left-small x y q k h e f = omega (arith, left-less x y q e f)
+  first-lt : q < k
+  first-lt = bit-in x q k small first-bit
+
+  module _ (y : ℕ) (f : y ≡ x ⊕ 2 ^ trailingZeros 64 x) where
+    later-is : y ≡ x ⊕ 2 ^ q
+    later-is = f ∙ ap (λ (j : ℕ). x ⊕ 2 ^ j) (sym e)
+
+    pub later-less : y < x
+    later-less = subst (λ (z : ℕ). z < x) (sym later-is) (flip-less x q first-bit)
+
+    pub later-small : y < 2 ^ k
+    later-small = omega (arith, later-less)
 
 pub first-fits : (x : ℕ) → trailingZeros 64 x < 2 ^ 64
 first-fits x = omega (arith, trailing-le 64 x)
+
+-- x & (x - 1) is x without its lowest bit
+odd-later : (x : ℕ) → x % 2 ≡ 1 → bitAnd x (x - 1) ≡ bitXor x 1
+odd-later x e =
+    let h : (x - 1) / 2 ≡ x / 2 = omega arith in
+    let m : (x - 1) % 2 ≡ 0 = omega arith in
+    let n : bitAnd x 1 ≡ 1 = and-mask x 1 ∙ e in
+    let y : bitXor x 1 + bitAnd x 1 * 2 ≡ x + 1 = xor-add-and x 1 in
+    let a : bitAnd x (x - 1) ≡ x / 2 * 2 + 0 =
+    and-step x (x - 1) ∙ ap₂ (λ (i j : ℕ). bitAnd (x / 2) i * 2 + j) h (ap₂ min e m) ∙ ap (λ (i : ℕ). i * 2 + 0) (and-self (x / 2)) in
+    omega arith
+
+even-later : (x t : ℕ) → 0 < x → x % 2 ≡ 0 → bitAnd (x / 2) (x / 2 - 1) ≡ bitXor (x / 2) (2 ^ t) → bitAnd x (x - 1) ≡ bitXor x (2 ^ suc t)
+even-later x t s e ih =
+    let h : (x - 1) / 2 ≡ x / 2 - 1 = omega arith in
+    let m : (x - 1) % 2 ≡ 1 = omega arith in
+    let p : 2 ^ suc t ≡ 2 ^ t * 2 = pow-suc 2 t in
+    let i : 2 ^ suc t / 2 ≡ 2 ^ t = omega arith in
+    let j : 2 ^ suc t % 2 ≡ 0 = omega arith in
+    and-step x (x - 1) ∙ ap₂ (λ (a b : ℕ). bitAnd (x / 2) a * 2 + b) h (ap₂ min e m) ∙ ap (λ (a : ℕ). a * 2 + 0) ih
+    ∙ sym (xor-step x (2 ^ suc t) ∙ ap₂ (λ (a b : ℕ). bitXor (x / 2) a * 2 + b) i (ap₂ differ e j))
+
+lower-later : (d x : ℕ) → 0 < x → x < 2 ^ d → bitAnd x (x - 1) ≡ bitXor x (2 ^ trailingZeros d x)
+unfolding trailingZeros
+lower-later zero x h k = absurd (omega arith)
+lower-later (suc d) x h k = go (x % 2) refl (λ (e : x % 2 ≡ 0). lower-later d (x / 2) (half-some x h e) (half-lt x (2 ^ d) (subst (λ (y : ℕ). x < y) (pow-suc 2 d) k)))
+  where
+    go : (r : ℕ) → x % 2 ≡ r → (x % 2 ≡ 0 → bitAnd (x / 2) (x / 2 - 1) ≡ bitXor (x / 2) (2 ^ trailingZeros d (x / 2)))
+        → bitAnd x (x - 1) ≡ bitXor x (2 ^ under r (trailingZeros d (x / 2)))
+    go zero e ih = even-later x (trailingZeros d (x / 2)) h e (ih e)
+    go (suc r) e ih = odd-later x (odd-is x r e)
+
+pub later-and : (x : ℕ) → 0 < x → x < 2 ^ 64 → bitAnd x (x - 1) ≡ x ⊕ 2 ^ trailingZeros 64 x
+unfolding _⊕_
+later-and x h k = lower-later 64 x h k
 
 -- how many rows a mask names
 digit-ones : (d : ℕ) → d < 2 → ones d ≡ d
@@ -167,6 +207,7 @@ load-strip s run strip at rows l w L e = record { there = omega (arith, L .narro
 
 -- run holds the lanes; those of the rows that `left` names are still to be added, and then the rows that the mask names have them
 pub record Spread (s t strip run : List ℕ) (at rows mask left l w : ℕ) : Type 0 where
+  pub few : rows ≤ 60
   pub within : l + w ≤ length strip
   pub held : (i : ℕ) → i < w → getD run i 0 ≡ getD strip (l + i) 0
   pub len : length t ≡ length s
@@ -178,6 +219,7 @@ pub spread-none : (s strip run₀ run : List ℕ) (at rows mask left l w : ℕ) 
     → Spread s s strip run at rows mask left l w
 unfolding loaded
 spread-none s strip run₀ run at rows mask left l w L R e = record {
+  few = L .few;
   within = L .within;
   held = λ i h. ap (λ (j : ℕ). getD run j 0) (sym (zero-add i)) ∙ R .inner i h;
   len = refl;
@@ -185,8 +227,15 @@ spread-none s strip run₀ run at rows mask left l w L R e = record {
   other = λ o n. refl;
 }
 
-module _ (s t u strip run : List ℕ) (at rows mask left next q l w : ℕ) (S : Spread s t strip run at rows mask left l w) (small : left < 2 ^ rows) (set-bit : bit left q ≡ 1)
-    (d : Patched t u (at + l + q * length strip) w (added t (at + l + q * length strip) run 0 1)) (e : next ≡ left ⊕ 2 ^ q) where
+module _ (s t u strip run : List ℕ) (at rows mask left next q l w : ℕ) (S : Spread s t strip run at rows mask left l w)
+    (some : 0 < left) (small : left < 2 ^ rows) (first : q ≡ trailingZeros 64 left)
+    (d : Patched t u (at + l + q * length strip) w (added t (at + l + q * length strip) run 0 1)) (e : next ≡ left ⊕ 2 ^ trailingZeros 64 left) where
+  set-bit : bit left q ≡ 1
+  set-bit = first-bit left q rows some small (S .few) first
+
+  turned : next ≡ left ⊕ 2 ^ q
+  turned = later-is left q rows some small (S .few) first next e
+
   row-here : (x : ℕ) → l ≤ x → x < l + w → getD u (at + q * length strip + x) 0 ≡ getD t (at + q * length strip + x) 0 ⊕ getD strip x 0
   unfolding added pick
   row-here x h k =
@@ -214,11 +263,11 @@ module _ (s t u strip run : List ℕ) (at rows mask left next q l w : ℕ) (S : 
             let v : ℕ = getD strip x 0 in
             let here : getD u (at + j * length strip + x) 0 ≡ getD t (at + j * length strip + x) 0 ⊕ v =
             subst (λ (i : ℕ). getD u (at + i * length strip + x) 0 ≡ getD t (at + i * length strip + x) 0 ⊕ v) (sym f) (row-here x g k) in
-            let gone : bit next j ≡ 0 = ap₂ bit e f ∙ flip-bit left q set-bit in
+            let gone : bit next j ≡ 0 = ap₂ bit turned f ∙ flip-bit left q set-bit in
             let was : bit left j ≡ 1 = ap (bit left) f ∙ set-bit in
             ap₂ (λ (a c : ℕ). a ⊕ pick c v) here gone ∙ ⊕-zero (getD t (at + j * length strip + x) 0 ⊕ v)
             ∙ ap (λ (c : ℕ). getD t (at + j * length strip + x) 0 ⊕ pick c v) (sym was)
-        | no f ↦ ap₂ (λ (a c : ℕ). a ⊕ pick c (getD strip x 0)) (row-there j x f g k) (ap (λ (m : ℕ). bit m j) e ∙ flip-rest left q j f)
+        | no f ↦ ap₂ (λ (a c : ℕ). a ⊕ pick c (getD strip x 0)) (row-there j x f g k) (ap (λ (m : ℕ). bit m j) turned ∙ flip-rest left q j f)
       ]
 
   other-next : (o : ℕ) → ((j x : ℕ) → j < rows → l ≤ x → x < l + w → o ≢ at + j * length strip + x) → getD u o 0 ≡ getD t o 0
@@ -231,6 +280,7 @@ module _ (s t u strip run : List ℕ) (at rows mask left next q l w : ℕ) (S : 
 
   pub spread-more : Spread s u strip run at rows mask next l w
   spread-more = record {
+    few = S .few;
     within = S .within;
     held = S .held;
     len = d .len ∙ S .len;
@@ -238,18 +288,18 @@ module _ (s t u strip run : List ℕ) (at rows mask left next q l w : ℕ) (S : 
     other = λ o n. other-next o n ∙ S .other o n;
   }
 
-pub spread-fits : (s strip : List ℕ) (at rows left l w q : ℕ) → Lanes s strip at rows l w → length s < 2 ^ 64 → left < 2 ^ rows → bit left q ≡ 1
+pub spread-fits : (s strip : List ℕ) (at rows left l w q : ℕ) → Lanes s strip at rows l w → length s < 2 ^ 64 → 0 < left → left < 2 ^ rows → q ≡ trailingZeros 64 left
     → at + l + q * length strip < 2 ^ 64
-spread-fits s strip at rows left l w q L f h e = omega (arith, L .inside, L .within, row-in q rows (length strip) (bit-in left q rows h e))
+spread-fits s strip at rows left l w q L f n h e = omega (arith, L .inside, L .within, row-in q rows (length strip) (first-lt left q rows n h (L .few) e))
 
-pub spread-row : (s strip : List ℕ) (at rows left l w q : ℕ) → Lanes s strip at rows l w → length s < 2 ^ 64 → left < 2 ^ rows → bit left q ≡ 1
+pub spread-row : (s strip : List ℕ) (at rows left l w q : ℕ) → Lanes s strip at rows l w → length s < 2 ^ 64 → 0 < left → left < 2 ^ rows → q ≡ trailingZeros 64 left
     → q * length strip < 2 ^ 64
-spread-row s strip at rows left l w q L f h e = omega (arith, spread-fits s strip at rows left l w q L f h e)
+spread-row s strip at rows left l w q L f n h e = omega (arith, spread-fits s strip at rows left l w q L f n h e)
 
-pub spread-strip : (s t strip run₀ run : List ℕ) (at rows mask left l w q : ℕ) → Lanes s strip at rows l w → Spread s t strip run at rows mask left l w → left < 2 ^ rows → bit left q ≡ 1
+pub spread-strip : (s t strip run₀ run : List ℕ) (at rows mask left l w q : ℕ) → Lanes s strip at rows l w → Spread s t strip run at rows mask left l w → 0 < left → left < 2 ^ rows → q ≡ trailingZeros 64 left
     → Patched run₀ run 0 w (loaded strip l) → length run₀ ≡ 128 → Strip t run (at + l + q * length strip) 0 w
-spread-strip s t strip run₀ run at rows mask left l w q L S h e R f = record {
-  there = omega (arith, L .inside, L .within, S .len, row-in q rows (length strip) (bit-in left q rows h e));
+spread-strip s t strip run₀ run at rows mask left l w q L S n h e R f = record {
+  there = omega (arith, L .inside, L .within, S .len, row-in q rows (length strip) (first-lt left q rows n h (L .few) e));
   here = omega (arith, L .narrow, R .len);
 }
 
@@ -266,11 +316,8 @@ spread-end s t strip run at rows mask left l w S h =
       other = S .other;
     }
 
-pub wide-lanes : (s strip : List ℕ) (at rows l w : ℕ) → w ≡ 128 → Lanes s strip at rows l w → Lanes s strip at rows l 128
-wide-lanes s strip at rows l w e L = subst (Lanes s strip at rows l) e L
-
-pub wide-laned : (s t strip : List ℕ) (at rows mask l w : ℕ) → w ≡ 128 → Laned s t strip at rows mask l 128 → Laned s t strip at rows mask l w
-wide-laned s t strip at rows mask l w e L = subst (Laned s t strip at rows mask l) (sym e) L
+pub fixed-laned : (s t strip : List ℕ) (at rows mask l w n : ℕ) → w ≡ n → Laned s t strip at rows mask l n → Laned s t strip at rows mask l w
+fixed-laned s t strip at rows mask l w n e L = subst (Laned s t strip at rows mask l) (sym e) L
 
 -- ---- all lanes of a strip
 

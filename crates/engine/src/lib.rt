@@ -1,6 +1,7 @@
 // The two moves on strips that every call is made of, and the rows that a word takes of a column.
 ghost use mathlib.Core.Path.{_≡_};
 ghost use Prim.Native.Nat.{_+_, _%_, _^_, _<_, _≤_};
+ghost use lib.Count.{trailingZeros};
 ghost use lib.ListN.{length};
 ghost use Rattle.laws.specs.Bit.{bit, weight};
 ghost use Rattle.laws.specs.Part.{put, tab};
@@ -102,18 +103,17 @@ fn cut(mask: u64, rows: usize) -> u64
 
 // The first row that a mask names.
 fn first(mask: u64) -> usize
-    requires { ⌜ 0 < mask ⌝ }
-    ensures { λ r. ⌜ bit mask r ≡ 1 ⌝ }
+    ensures { λ r. ⌜ r ≡ trailingZeros 64 mask ⌝ }
 {
     u64::trailing_zeros(mask) as usize
 }
 
-// A mask with one row turned over.
-fn flip(mask: u64, q: usize) -> u64
-    requires { ⌜ q < 64 ⌝ }
-    ensures { λ r. ⌜ r ≡ mask ⊕ 2 ^ q ⌝ }
+// The rows that a mask names after the first.
+fn later(mask: u64) -> u64
+    requires { ⌜ 0 < mask ⌝ }
+    ensures { λ r. ⌜ r ≡ mask ⊕ 2 ^ trailingZeros 64 mask ⌝ }
 {
-    mask ^ (1 << q)
+    mask & (mask - 1)
 }
 
 // XORs lanes l to l + w of the strip into the rows that the mask names, of the rows of s at `at`.
@@ -129,27 +129,39 @@ fn add_lanes(s: &mut [u8], at: usize, rows: usize, mask: u64, strip: &[u8], l: u
     while left > 0 {
         let q = first(left);
         add(s, from + q * b, &run, 0, w);
-        left = flip(left, q);
+        left = later(left);
     }
 }
 
-// The same; a width of 128 stands in the code, so that its lanes stay in registers.
+// The same; a width that stands in the code lets the lanes stay in registers.
 fn add_block(s: &mut [u8], at: usize, rows: usize, mask: u64, strip: &[u8], l: usize, w: usize)
     requires { ⌜ Lanes (now s) (now strip) at rows l w ⌝ }
     ensures { λ _. ⌜ Laned (now (s .entry)) (now (s .exit)) (now (strip .entry)) at rows mask l w ⌝ }
 {
     if w == 128 {
         add_lanes(s, at, rows, mask, strip, l, 128)
+    } else if w == 32 {
+        add_lanes(s, at, rows, mask, strip, l, 32)
+    } else if w == 16 {
+        add_lanes(s, at, rows, mask, strip, l, 16)
     } else {
         add_lanes(s, at, rows, mask, strip, l, w)
     }
 }
 
-// n, but no more than 128.
+// How many of n lanes to take at once: 128, 32 or 16 where there are so many.
 fn width(n: usize) -> usize
     ensures { λ r. ⌜ (r ≤ n) × (r ≤ 128) × (0 < n → 0 < r) ⌝ }
 {
-    if n < 128 { n } else { 128 }
+    if n >= 128 {
+        128
+    } else if n >= 32 {
+        32
+    } else if n >= 16 {
+        16
+    } else {
+        n
+    }
 }
 
 // How many rows the mask names, of the first `rows`.

@@ -4,7 +4,7 @@ use Prim.Native.Nat.{_^_, _<_}
 use mathlib.Core.Path.{refl}
 use native.Mathlib.Omega.{arith}
 use borrow.Author.Needs.{needs}
-use Rattle.engine.proofs.Lanes.{Spread, cut-lt, spread-none, first-low, left-less, left-small, spread-more, spread-end, load-strip, spread-row, spread-fits, spread-strip}
+use Rattle.engine.proofs.Lanes.{Spread, cut-lt, spread-none, later-less, later-small, spread-more, spread-end, load-strip, spread-row, spread-fits, spread-strip}
 use Rattle.engine.proofs.add_lanes.Statement.{statement}
 use Rattle.engine.proofs.add_lanes.Tie as tie
 
@@ -44,14 +44,14 @@ slice-aggregate-add c = search needs
 add-requires : tie.Need-add-requires Inv-loop μ-loop
 add-requires c κs = search spread-strip
 
-flip-requires : tie.Need-flip-requires Inv-loop μ-loop
-flip-requires c κs = search first-low
+later-requires : tie.Need-later-requires Inv-loop μ-loop
+later-requires c κs = omega arith
 
 loop-less : tie.Need-loop-less Inv-loop μ-loop
-loop-less c = search left-less
+loop-less c = search later-less
 
 loop-again : tie.Need-loop-again Inv-loop μ-loop
-loop-again c = (search left-small, search spread-more)
+loop-again c = (search later-small, search spread-more)
 
 same-length : tie.Need-same-length Inv-loop μ-loop
 same-length c = omega arith
@@ -75,7 +75,7 @@ add-lanes-spec =
     add-add
     slice-aggregate-add
     add-requires
-    flip-requires
+    later-requires
     loop-less
     loop-again
     same-length

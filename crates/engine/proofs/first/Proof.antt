@@ -1,6 +1,7 @@
 -- `engine::first` meets its contract.
 -- Assumes nothing.
-use Rattle.engine.proofs.Lanes.{first-is, first-fits}
+use mathlib.Core.Path.{refl}
+use Rattle.engine.proofs.Lanes.{first-fits}
 use Rattle.engine.proofs.first.Statement.{statement}
 use Rattle.engine.proofs.first.Tie as tie
 
@@ -8,7 +9,7 @@ cast-result : tie.Need-cast-result
 cast-result c = search first-fits
 
 returns : tie.Need-returns
-returns c = search first-is
+returns c = refl
 
 pub first-spec : {M : Type 1} → statement M
 first-spec = tie.close (tie.spec cast-result returns)
