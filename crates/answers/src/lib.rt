@@ -1,0 +1,129 @@
+// Answers, each a line on standard output: `done ..` or `refused N NAME`.
+use refusal::Refusal;
+ghost use Prim.Native.Nat.{_+_, _≤_};
+ghost use lib.ListN.{length};
+ghost use Rattle.answers.specs.declared.Answer.the-variants.{Word, Accepted, Refused};
+ghost use Rattle.answers.specs.Line.{Put, text, spaced, nameOf, lineOf};
+
+// What a command comes to. `Said`: nothing is left to say.
+pub enum Answer {
+    Done,
+    Word(u64),
+    Accepted(u32, u64),
+    Refused(Refusal),
+    Said,
+}
+
+// Puts text behind the first n bytes of a line.
+fn put(line: &mut [u8], n: usize, text: &[u8]) -> usize
+    requires { ⌜ n + length (now text) ≤ length (now line) ⌝ }
+    ensures { λ x. ⌜ Put (now (line .entry)) (now (line .exit)) n x (now (text .entry)) ⌝ }
+{
+    let mut i: usize = 0;
+    while i < text.len() {
+        line[n + i] = text[i];
+        i += 1;
+    }
+    n + i
+}
+
+// The same with the digits of a number.
+fn put_digits(line: &mut [u8], n: usize, number: u64) -> usize
+    requires { ⌜ n + 20 ≤ length (now line) ⌝ }
+    ensures { λ x. ⌜ Put (now (line .entry)) (now (line .exit)) n x (text number) ⌝ }
+    ensures { λ x. ⌜ x ≤ n + 20 ⌝ }
+{
+    let mut digits = [0u8; 20];
+    let k = io::decimal(number, &mut digits);
+    put(line, n, &digits[..k])
+}
+
+// The same with a space before them.
+fn put_number(line: &mut [u8], n: usize, number: u64) -> usize
+    requires { ⌜ n + 21 ≤ length (now line) ⌝ }
+    ensures { λ x. ⌜ Put (now (line .entry)) (now (line .exit)) n x (spaced (text number)) ⌝ }
+    ensures { λ x. ⌜ x ≤ n + 21 ⌝ }
+{
+    let m = put(line, n, b" ");
+    put_digits(line, m, number)
+}
+
+// The same with the name of a refusal.
+fn put_name(line: &mut [u8], n: usize, e: Refusal) -> usize
+    requires { ⌜ n + 9 ≤ length (now line) ⌝ }
+    ensures { λ x. ⌜ Put (now (line .entry)) (now (line .exit)) n x (spaced (nameOf e)) ⌝ }
+    ensures { λ x. ⌜ x ≤ n + 9 ⌝ }
+{
+    match e {
+        Refusal::Cut => put(line, n, b" CUT"),
+        Refusal::Tail => put(line, n, b" TAIL"),
+        Refusal::Count => put(line, n, b" COUNT"),
+        Refusal::Prime => put(line, n, b" PRIME"),
+        Refusal::Shape => put(line, n, b" SHAPE"),
+        Refusal::Strip => put(line, n, b" STRIP"),
+        Refusal::Width => put(line, n, b" WIDTH"),
+        Refusal::Column => put(line, n, b" COLUMN"),
+        Refusal::Row => put(line, n, b" ROW"),
+        Refusal::Stale => put(line, n, b" STALE"),
+        Refusal::Ahead => put(line, n, b" AHEAD"),
+        Refusal::Many => put(line, n, b" MANY"),
+        Refusal::Room => put(line, n, b" ROOM"),
+        Refusal::Long => put(line, n, b" LONG"),
+        Refusal::Exponent => put(line, n, b" EXPONENT"),
+        Refusal::Element => put(line, n, b" ELEMENT"),
+    }
+}
+
+// The line of a refusal.
+fn put_refused(line: &mut [u8], e: Refusal) -> usize
+    requires { ⌜ 64 ≤ length (now line) ⌝ }
+    ensures { λ x. ⌜ Put (now (line .entry)) (now (line .exit)) 0 x (lineOf (Refused e)) ⌝ }
+{
+    let a = put(line, 0, b"refused");
+    let b = put_number(line, a, e.number());
+    let c = put_name(line, b, e);
+    put(line, c, b"\n")
+}
+
+// The line of a word of wrong parities.
+fn put_word(line: &mut [u8], w: u64) -> usize
+    requires { ⌜ 64 ≤ length (now line) ⌝ }
+    ensures { λ x. ⌜ Put (now (line .entry)) (now (line .exit)) 0 x (lineOf (Word w)) ⌝ }
+{
+    let a = put(line, 0, b"done");
+    let b = put_number(line, a, w);
+    put(line, b, b"\n")
+}
+
+// The line of an accepted write.
+fn put_accepted(line: &mut [u8], revision: u32, count: u64) -> usize
+    requires { ⌜ 64 ≤ length (now line) ⌝ }
+    ensures { λ x. ⌜ Put (now (line .entry)) (now (line .exit)) 0 x (lineOf (Accepted revision count)) ⌝ }
+{
+    let a = put(line, 0, b"done");
+    let b = put_number(line, a, revision as u64);
+    let c = put_number(line, b, count);
+    put(line, c, b"\n")
+}
+
+// The line of an answer.
+fn put_answer(line: &mut [u8], answer: Answer) -> usize
+    requires { ⌜ 64 ≤ length (now line) ⌝ }
+    ensures { λ x. ⌜ Put (now (line .entry)) (now (line .exit)) 0 x (lineOf answer) ⌝ }
+    ensures { λ x. ⌜ x ≤ length (now (line .exit)) ⌝ }
+{
+    match answer {
+        Answer::Done => put(line, 0, b"done\n"),
+        Answer::Word(w) => put_word(line, w),
+        Answer::Accepted(revision, count) => put_accepted(line, revision, count),
+        Answer::Refused(e) => put_refused(line, e),
+        Answer::Said => 0,
+    }
+}
+
+// Writes the line of an answer; whether it could be written.
+pub fn say(answer: Answer) -> bool {
+    let mut line = [0u8; 64];
+    let n = put_answer(&mut line, answer);
+    io::write_all(1, &line[0..n])
+}

@@ -1,0 +1,4 @@
+// The depot's images by command: see commands.
+fn main() {
+    commands::run_arguments();
+}

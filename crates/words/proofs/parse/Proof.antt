@@ -1,0 +1,83 @@
+-- `words::parse` meets its contract.
+-- Assumes nothing.
+use borrow.Author.Needs.{needs}
+use Rattle.words.proofs.Commands.{asks-make, asks-write, asks-short, asks-show, asks-rebuild}
+use Rattle.words.proofs.parse.Statement.{statement}
+use Rattle.words.proofs.parse.Tie as tie
+
+slice-aggregate-asks : tie.Need-slice-aggregate-asks
+slice-aggregate-asks c = search needs
+
+asks-requires : tie.Need-asks-requires
+asks-requires c κs = search needs
+
+make-words-requires : tie.Need-make-words-requires
+make-words-requires c κs = search needs
+
+returns : tie.Need-returns
+returns c = search asks-make
+
+slice-aggregate-asks-2 : tie.Need-slice-aggregate-asks-2
+slice-aggregate-asks-2 c = search needs
+
+asks-requires-2 : tie.Need-asks-requires-2
+asks-requires-2 c κs = search needs
+
+write-words-requires : tie.Need-write-words-requires
+write-words-requires c κs = search needs
+
+returns-2 : tie.Need-returns-2
+returns-2 c = search asks-write
+
+slice-aggregate-asks-3 : tie.Need-slice-aggregate-asks-3
+slice-aggregate-asks-3 c = search needs
+
+asks-requires-3 : tie.Need-asks-requires-3
+asks-requires-3 c κs = search needs
+
+rebuild-words-requires : tie.Need-rebuild-words-requires
+rebuild-words-requires c κs = search needs
+
+returns-3 : tie.Need-returns-3
+returns-3 c = search asks-rebuild
+
+slice-aggregate-asks-4 : tie.Need-slice-aggregate-asks-4
+slice-aggregate-asks-4 c = search needs
+
+asks-requires-4 : tie.Need-asks-requires-4
+asks-requires-4 c κs = search needs
+
+show-words-requires : tie.Need-show-words-requires
+show-words-requires c κs = search needs
+
+returns-4 : tie.Need-returns-4
+returns-4 c = search asks-show
+
+parse-short-requires : tie.Need-parse-short-requires
+parse-short-requires c κs = search needs
+
+returns-5 : tie.Need-returns-5
+returns-5 c = search asks-short
+
+pub parse-spec : {M : Type 1} → statement M
+parse-spec =
+    tie.close
+    (tie.spec
+    slice-aggregate-asks
+    asks-requires
+    make-words-requires
+    returns
+    slice-aggregate-asks-2
+    asks-requires-2
+    write-words-requires
+    returns-2
+    slice-aggregate-asks-3
+    asks-requires-3
+    rebuild-words-requires
+    returns-3
+    slice-aggregate-asks-4
+    asks-requires-4
+    show-words-requires
+    returns-4
+    parse-short-requires
+    returns-5)

@@ -1,0 +1,4 @@
+pub mod Words
+pub mod Decimal
+pub mod Columns
+pub mod Command
