@@ -1,6 +1,7 @@
 // The commands of the depot: files of images that are made, looked at and changed.
 // A changed image goes to a new file beside the old one; that is synced and looked at again before it takes the old one's name.
 use answers::Answer;
+use files::Taken;
 use parity::Checkup;
 use parity::Outcome;
 use stripe::Checked;
@@ -11,24 +12,14 @@ use write::Written;
 ghost use mathlib.Core.Path.{_≡_};
 ghost use Prim.Native.Nat.{_≤_};
 ghost use lib.ListN.{length};
-ghost use Rattle.commands.specs.Taken.{Within};
-
-// The length of the largest image.
-const LARGEST: usize = 1874176;
 
 // The length of the largest strip.
 const STRIP: usize = 512;
 
-// How many bytes were taken into a buffer; nothing where that failed.
-enum Taken {
-    Bytes(usize),
-    Nothing,
-}
-
-// A line on standard error: what it is about, and what is wrong with it.
-fn complain(what: &[u8], why: &[u8]) {
-    io::write_all(2, what);
-    io::write_all(2, why);
+// An image that a command changed in its buffer: the answer, and its length.
+struct Changed {
+    answer: Answer,
+    length: usize,
 }
 
 // Writes the line of an answer.
@@ -36,205 +27,6 @@ fn tell(answer: Answer) {
     if !answers::say(answer) {
         os::fail(b"standard output");
     }
-}
-
-// Reads on until the buffer is full or the file ends.
-fn fill(fd: i32, path: &[u8], buf: &mut [u8]) -> Taken
-    ensures { λ x. ⌜ Within (now (buf .exit)) x ⌝ }
-{
-    let mut n: usize = 0;
-    while n < buf.len() {
-        let got = libc::read(fd, &mut buf[n..]);
-        if got < 0 {
-            os::fail(path);
-            return Taken::Nothing;
-        }
-        let more = io::count(got, &buf[n..]);
-        if more == 0 {
-            return Taken::Bytes(n);
-        }
-        n += more;
-    }
-    Taken::Bytes(n)
-}
-
-// Takes a file, as much of it as the buffer holds.
-fn take(path: &[u8], buf: &mut [u8]) -> Taken
-    ensures { λ x. ⌜ Within (now (buf .exit)) x ⌝ }
-{
-    let fd = os::open_read(path);
-    if fd < 0 {
-        os::fail(path);
-        return Taken::Nothing;
-    }
-    let taken = fill(fd, path, buf);
-    libc::close(fd);
-    taken
-}
-
-// How many of the next bytes of a file are those of the slice; 0 where they are not, or the file ends.
-fn match_some(fd: i32, bytes: &[u8]) -> usize
-    ensures { λ n. ⌜ n ≤ length (now (bytes .entry)) ⌝ }
-{
-    let mut buf = io::large_buffer();
-    let got = libc::read(fd, &mut buf);
-    let n = io::count(got, &buf);
-    if n > bytes.len() {
-        return 0;
-    }
-    if !words::same(&buf[..n], &bytes[0..n]) {
-        return 0;
-    }
-    n
-}
-
-// Whether a file ends here.
-fn is_end(fd: i32) -> bool {
-    let mut one = [0u8; 1];
-    libc::read(fd, &mut one) == 0
-}
-
-// Whether the rest of a file is these bytes and nothing else.
-fn match_all(fd: i32, bytes: &[u8]) -> bool {
-    let mut at: usize = 0;
-    while at < bytes.len() {
-        let n = match_some(fd, &bytes[at..]);
-        if n == 0 {
-            return false;
-        }
-        at += n;
-    }
-    is_end(fd)
-}
-
-// Looks at a file again: whether it holds these bytes and nothing else. What the system keeps of it in memory is dropped first.
-fn look(path: &[u8], bytes: &[u8]) -> bool {
-    let fd = os::open_read(path);
-    if fd < 0 {
-        os::fail(path);
-        return false;
-    }
-    libc::posix_fadvise(fd, 0, 0, libc::POSIX_FADV_DONTNEED);
-    let same = match_all(fd, bytes);
-    libc::close(fd);
-    if !same {
-        complain(path, b": not what was written\n");
-    }
-    same
-}
-
-// Writes the bytes to a new file and syncs it.
-fn store(fd: i32, path: &[u8], bytes: &[u8]) -> bool {
-    if io::write_all(fd, bytes) && libc::fsync(fd) == 0 {
-        return true;
-    }
-    os::fail(path);
-    false
-}
-
-// The length of a path's folder, with its last slash.
-fn folder(path: &[u8]) -> usize
-    ensures { λ n. ⌜ n ≤ length (now (path .entry)) ⌝ }
-{
-    let mut n: usize = 0;
-    let mut i: usize = 0;
-    while i < path.len() {
-        i += 1;
-        if path[i - 1] == b'/' {
-            n = i;
-        }
-    }
-    n
-}
-
-// Opens the folder of a path.
-fn open_folder(path: &[u8]) -> i32 {
-    let n = folder(path);
-    if n == 0 {
-        return os::open_read(b".");
-    }
-    os::open_read(&path[0..n])
-}
-
-// Gives the new file the image's name, and syncs the folder that holds the name.
-fn replace(path: &[u8], new: &[u8]) -> bool {
-    let dir = open_folder(path);
-    if dir < 0 {
-        os::fail(path);
-        return false;
-    }
-    let done = os::rename(new, path) == 0;
-    if !(done && libc::fsync(dir) == 0) {
-        os::fail(path);
-    }
-    libc::close(dir);
-    done
-}
-
-// The house rule: written once, synced, looked at again; then it is the image.
-fn keep(fd: i32, path: &[u8], new: &[u8], bytes: &[u8]) -> bool {
-    store(fd, new, bytes) && look(new, bytes) && replace(path, new)
-}
-
-// The answer where the image was kept.
-fn keep_for(answer: Answer, fd: i32, path: &[u8], new: &[u8], bytes: &[u8]) -> Answer {
-    if keep(fd, path, new, bytes) {
-        answer
-    } else {
-        Answer::Said
-    }
-}
-
-// Copies bytes to the start of a slice.
-fn copy_in(from: &[u8], to: &mut [u8])
-    requires { ⌜ length (now from) ≤ length (now to) ⌝ }
-{
-    let mut i: usize = 0;
-    while i < from.len() {
-        to[i] = from[i];
-        i += 1;
-    }
-}
-
-// Puts the name of the new file beside an image into `name`; its length, or 0 where it is too long.
-fn name_new(path: &[u8], name: &mut [u8]) -> usize
-    requires { ⌜ 4096 ≤ length (now name) ⌝ }
-    ensures { λ n. ⌜ n ≤ length (now (name .exit)) ⌝ }
-{
-    let n = path.len();
-    if n > 4091 {
-        return 0;
-    }
-    copy_in(path, name);
-    copy_in(b".new", &mut name[n..]);
-    n + 4
-}
-
-// Whether a path names a link: the new file would replace it, and what it leads to would stay as it was.
-fn is_link(path: &[u8]) -> bool {
-    if path.len() > 4091 {
-        return false;
-    }
-    let mut name = io::buffer();
-    copy_in(path, &mut name);
-    name[4095] = 0;
-    let mut text = [0u8; 1];
-    libc::readlink(&name, &mut text) >= 0
-}
-
-// Whether a path is free: nothing has that name, nor is anything else in the way.
-fn is_free(path: &[u8]) -> bool {
-    let fd = os::open_read(path);
-    if fd >= 0 {
-        libc::close(fd);
-        complain(path, b": there is a file of that name\n");
-        return false;
-    }
-    if os::errno() != libc::ENOENT {
-        os::fail(path);
-        return false;
-    }
-    true
 }
 
 // The length of the image of parameters; 0 where they are refused.
@@ -249,11 +41,8 @@ fn room(p: usize, k: usize, r: usize, b: usize) -> usize
 }
 
 // check: which parities are wrong.
-fn check(path: &[u8], image: &mut [u8]) -> Answer {
-    let Taken::Bytes(n) = take(path, image) else {
-        return Answer::Said;
-    };
-    let checkup = parity::check(&image[0..n]);
+fn check(image: &[u8]) -> Answer {
+    let checkup = parity::check(image);
     match checkup {
         Checkup::Wrong(w) => Answer::Word(w),
         Checkup::Refused(e) => Answer::Refused(e),
@@ -261,57 +50,61 @@ fn check(path: &[u8], image: &mut [u8]) -> Answer {
 }
 
 // report: the lines of the report program.
-fn report(path: &[u8], image: &mut [u8]) -> Answer {
-    let Taken::Bytes(n) = take(path, image) else {
-        return Answer::Said;
-    };
-    let reading = stripe::read(&image[0..n]);
+fn report(image: &[u8]) -> Answer {
+    let reading = stripe::read(image);
     let Reading::Stripe(_) = reading else {
         return Answer::Refused(reading.refusal());
     };
-    reporting::describe(&image[0..n]);
+    reporting::describe(image);
     Answer::Said
 }
 
 // show: the bytes of a strip, restored first if its column is lost.
-fn show(path: &[u8], lost: u64, column: usize, row: usize, image: &mut [u8]) -> Answer {
-    let Taken::Bytes(n) = take(path, image) else {
-        return Answer::Said;
-    };
+fn show(image: &[u8], lost: u64, column: usize, row: usize) -> Answer {
     let mut scratch = [0u8; STRIP];
-    let outcome = rebuild::restore(&image[0..n], lost, column, row, &mut scratch);
+    let outcome = rebuild::restore(image, lost, column, row, &mut scratch);
     if let Outcome::Refused(e) = outcome {
         return Answer::Refused(e);
     }
-    let strip = rebuild::show(&image[0..n], lost, column, row, &scratch);
-    if !io::write_all(1, strip) {
+    if !io::write_all(1, rebuild::show(image, lost, column, row, &scratch)) {
         os::fail(b"standard output");
     }
     Answer::Said
 }
 
-// The answer of a call that changed an image, once the image is kept.
-fn keep_outcome(outcome: Outcome, fd: i32, path: &[u8], new: &[u8], image: &[u8]) -> Answer {
-    match outcome {
-        Outcome::Done => keep_for(Answer::Done, fd, path, new, image),
-        Outcome::Refused(e) => Answer::Refused(e),
+// The commands that only look at an image.
+fn view_by(command: Command, image: &[u8]) -> Answer {
+    match command {
+        Command::Check => check(image),
+        Command::Show(lost, column, row) => show(image, lost, column, row),
+        _ => report(image),
     }
 }
 
-// The image of the data, made and kept.
-fn make_kept(
-    p: usize,
-    k: usize,
-    r: usize,
-    b: usize,
-    given: &[u8],
-    fd: i32,
-    path: &[u8],
-    new: &[u8],
-    image: &mut [u8],
-) -> Answer {
-    let outcome = parity::make(p, k, r, b, given, image);
-    keep_outcome(outcome, fd, path, new, image)
+// A command that only looks at an image.
+fn view(command: Command, path: &[u8], image: &mut [u8]) -> Answer {
+    let Taken::Bytes(n) = files::take(path, image) else {
+        return Answer::Said;
+    };
+    view_by(command, &image[0..n])
+}
+
+// Nothing was changed, and why was said.
+fn nothing() -> Changed
+    ensures { λ x. ⌜ x .length ≡ 0 ⌝ }
+{
+    Changed {
+        answer: Answer::Said,
+        length: 0,
+    }
+}
+
+// The answer of a call that changes an image.
+fn said(outcome: Outcome) -> Answer {
+    match outcome {
+        Outcome::Done => Answer::Done,
+        Outcome::Refused(e) => Answer::Refused(e),
+    }
 }
 
 // make: the image of a file's data; an image that is there already stays.
@@ -321,68 +114,59 @@ fn make(
     r: usize,
     b: usize,
     from: &[u8],
-    fd: i32,
     path: &[u8],
-    new: &[u8],
     image: &mut [u8],
     other: &mut [u8],
-) -> Answer
+) -> Changed
     requires { ⌜ 1874176 ≤ length (now image) ⌝ }
+    ensures { λ x. ⌜ x .length ≤ length (now (image .exit)) ⌝ }
 {
-    if !is_free(path) {
-        return Answer::Said;
+    if !files::is_free(path) {
+        return nothing();
     }
-    let Taken::Bytes(m) = take(from, other) else {
-        return Answer::Said;
+    let Taken::Bytes(m) = files::take(from, other) else {
+        return nothing();
     };
     let n = room(p, k, r, b);
-    make_kept(p, k, r, b, &other[0..m], fd, path, new, &mut image[0..n])
-}
-
-// The image with all parity anew, kept.
-fn refill_kept(fd: i32, path: &[u8], new: &[u8], image: &mut [u8]) -> Answer {
-    let outcome = parity::refill(image);
-    keep_outcome(outcome, fd, path, new, image)
+    let outcome = parity::make(p, k, r, b, &other[0..m], &mut image[0..n]);
+    Changed {
+        answer: said(outcome),
+        length: n,
+    }
 }
 
 // refill: all parity anew.
-fn refill(fd: i32, path: &[u8], new: &[u8], image: &mut [u8]) -> Answer {
-    let Taken::Bytes(n) = take(path, image) else {
-        return Answer::Said;
+fn refill(path: &[u8], image: &mut [u8]) -> Changed
+    ensures { λ x. ⌜ x .length ≤ length (now (image .exit)) ⌝ }
+{
+    let Taken::Bytes(n) = files::take(path, image) else {
+        return nothing();
     };
-    refill_kept(fd, path, new, &mut image[0..n])
-}
-
-// The image with its lost columns rebuilt, kept.
-fn rebuild_kept(lost: u64, fd: i32, path: &[u8], new: &[u8], image: &mut [u8]) -> Answer {
-    let outcome = rebuild::rebuild(image, lost);
-    keep_outcome(outcome, fd, path, new, image)
+    let outcome = parity::refill(&mut image[0..n]);
+    Changed {
+        answer: said(outcome),
+        length: n,
+    }
 }
 
 // rebuild: the lost columns from the others.
-fn rebuild_lost(lost: u64, fd: i32, path: &[u8], new: &[u8], image: &mut [u8]) -> Answer {
-    let Taken::Bytes(n) = take(path, image) else {
-        return Answer::Said;
+fn rebuild_lost(lost: u64, path: &[u8], image: &mut [u8]) -> Changed
+    ensures { λ x. ⌜ x .length ≤ length (now (image .exit)) ⌝ }
+{
+    let Taken::Bytes(n) = files::take(path, image) else {
+        return nothing();
     };
-    rebuild_kept(lost, fd, path, new, &mut image[0..n])
+    let outcome = rebuild::rebuild(&mut image[0..n], lost);
+    Changed {
+        answer: said(outcome),
+        length: n,
+    }
 }
 
-// The image with a new strip, kept.
-fn write_kept(
-    column: usize,
-    row: usize,
-    base: u32,
-    strip: &[u8],
-    fd: i32,
-    path: &[u8],
-    new: &[u8],
-    image: &mut [u8],
-) -> Answer {
-    let written = write::write(image, column, row, base, strip);
+// The answer of a write.
+fn accepted(written: Written) -> Answer {
     match written {
-        Written::Accepted(revision, count) => {
-            keep_for(Answer::Accepted(revision, count), fd, path, new, image)
-        }
+        Written::Accepted(revision, count) => Answer::Accepted(revision, count),
         Written::Refused(e) => Answer::Refused(e),
     }
 }
@@ -393,75 +177,51 @@ fn write_strip(
     row: usize,
     base: u32,
     from: &[u8],
-    fd: i32,
     path: &[u8],
-    new: &[u8],
     image: &mut [u8],
-) -> Answer {
+) -> Changed
+    ensures { λ x. ⌜ x .length ≤ length (now (image .exit)) ⌝ }
+{
     let mut strip = [0u8; STRIP + 1];
-    let Taken::Bytes(m) = take(from, &mut strip) else {
-        return Answer::Said;
+    let Taken::Bytes(m) = files::take(from, &mut strip) else {
+        return nothing();
     };
-    let Taken::Bytes(n) = take(path, image) else {
-        return Answer::Said;
+    let Taken::Bytes(n) = files::take(path, image) else {
+        return nothing();
     };
-    write_kept(
-        column,
-        row,
-        base,
-        &strip[0..m],
-        fd,
-        path,
-        new,
-        &mut image[0..n],
-    )
+    let written = write::write(&mut image[0..n], column, row, base, &strip[0..m]);
+    Changed {
+        answer: accepted(written),
+        length: n,
+    }
 }
 
-// The commands that change an image, once its new file is there.
+// The commands that change an image, in its buffer.
 fn change_by(
     command: Command,
     line: &[u8],
     mark: u8,
-    fd: i32,
     path: &[u8],
-    new: &[u8],
     image: &mut [u8],
     other: &mut [u8],
-) -> Answer
+) -> Changed
     requires { ⌜ 1874176 ≤ length (now image) ⌝ }
+    ensures { λ x. ⌜ x .length ≤ length (now (image .exit)) ⌝ }
 {
     match command {
         Command::Make(p, k, r, b) => {
-            make(
-                p,
-                k,
-                r,
-                b,
-                words::word(line, mark, 5),
-                fd,
-                path,
-                new,
-                image,
-                other,
-            )
+            make(p, k, r, b, words::word(line, mark, 5), path, image, other)
         }
-        Command::Write(column, row, base) => write_strip(
-            column,
-            row,
-            base,
-            words::word(line, mark, 5),
-            fd,
-            path,
-            new,
-            image,
-        ),
-        Command::Rebuild(lost) => rebuild_lost(lost, fd, path, new, image),
-        _ => refill(fd, path, new, image),
+        Command::Write(column, row, base) => {
+            write_strip(column, row, base, words::word(line, mark, 5), path, image)
+        }
+        Command::Rebuild(lost) => rebuild_lost(lost, path, image),
+        _ => refill(path, image),
     }
 }
 
-// Whether an answer says that the image was kept.
-fn is_kept(answer: Answer) -> bool {
+// Whether an answer says that the image was changed.
+fn is_change(answer: Answer) -> bool {
     match answer {
         Answer::Done => true,
         Answer::Accepted(_, _) => true,
@@ -469,7 +229,20 @@ fn is_kept(answer: Answer) -> bool {
     }
 }
 
-// Makes the new file, which keeps others from changing the image at the same time, and removes it where nothing came of it.
+// The answer, once the changed image is kept; the new file is removed where nothing came of it.
+fn keep(answer: Answer, fd: i32, path: &[u8], new: &[u8], image: &[u8]) -> Answer {
+    if !is_change(answer) {
+        os::unlink(new);
+        return answer;
+    }
+    if !files::keep(fd, path, new, image) {
+        os::unlink(new);
+        return Answer::Said;
+    }
+    answer
+}
+
+// Makes the new file, which keeps others from changing the image at the same time, then changes the image and keeps it.
 fn change_beside(
     command: Command,
     line: &[u8],
@@ -486,12 +259,12 @@ fn change_beside(
         os::fail(new);
         return Answer::Said;
     }
-    let answer = change_by(command, line, mark, fd, path, new, image, other);
-    if !is_kept(answer) {
-        os::unlink(new);
-    }
+    let changed = change_by(command, line, mark, path, image, other);
+    let answer = changed.answer;
+    let n = changed.length;
+    let kept = keep(answer, fd, path, new, &image[0..n]);
     libc::close(fd);
-    answer
+    kept
 }
 
 // A command that changes an image.
@@ -505,14 +278,14 @@ fn change(
 ) -> Answer
     requires { ⌜ 1874176 ≤ length (now image) ⌝ }
 {
-    if is_link(path) {
-        complain(path, b": a link; name the file that it leads to\n");
+    if files::is_link(path) {
+        files::complain(path, b": a link; name the file that it leads to\n");
         return Answer::Said;
     }
     let mut name = io::buffer();
-    let n = name_new(path, &mut name);
+    let n = files::name_new(path, &mut name);
     if n == 0 {
-        complain(path, b": too long a name\n");
+        files::complain(path, b": too long a name\n");
         return Answer::Said;
     }
     change_beside(command, line, mark, path, &name[0..n], image, other)
@@ -522,39 +295,16 @@ fn change(
 fn help() -> Answer {
     io::write_all(
         1,
-        b"depot make P K R B DATA IMAGE             a new image of the data, revisions 0\n",
-    );
-    io::write_all(
-        1,
-        b"depot check IMAGE                         the word of wrong parities; 0: all right\n",
-    );
-    io::write_all(
-        1,
-        b"depot refill IMAGE                        all parity anew from the data\n",
-    );
-    io::write_all(
-        1,
-        b"depot write IMAGE COLUMN ROW BASE STRIP   a new strip against a revision: the new one and the parity strips changed\n",
-    );
-    io::write_all(
-        1,
-        b"depot rebuild IMAGE LOST                  the lost columns from the others\n",
-    );
-    io::write_all(
-        1,
-        b"depot show IMAGE LOST COLUMN ROW          a strip, restored if its column is lost\n",
-    );
-    io::write_all(
-        1,
-        b"depot report IMAGE                        parameters, revisions, each parity right or wrong\n",
-    );
-    io::write_all(
-        1,
-        b"depot help                                these lines\n",
-    );
-    io::write_all(
-        1,
-        b"LOST: columns such as 0,3, or - for none; data columns come first, then parity. DATA, STRIP and IMAGE are files.\n",
+        b"depot make P K R B DATA IMAGE             a new image of the data, revisions 0
+depot check IMAGE                         the word of wrong parities; 0: all right
+depot refill IMAGE                        all parity anew from the data
+depot write IMAGE COLUMN ROW BASE STRIP   a new strip against a revision: the new one and the parity strips changed
+depot rebuild IMAGE LOST                  the lost columns from the others
+depot show IMAGE LOST COLUMN ROW          a strip, restored if its column is lost
+depot report IMAGE                        parameters, revisions, each parity right or wrong
+depot help                                these lines
+LOST: columns such as 0,3, or - for none; data columns come first, then parity. DATA, STRIP and IMAGE are files.
+",
     );
     Answer::Said
 }
@@ -568,81 +318,40 @@ fn usage() -> Answer {
     Answer::Said
 }
 
+// Which word of a command names its image.
+fn path_at(command: Command) -> usize {
+    match command {
+        Command::Make(_, _, _, _) => 6,
+        _ => 1,
+    }
+}
+
 // Does what a command asks, in two buffers.
 fn perform(command: Command, line: &[u8], mark: u8, image: &mut [u8], other: &mut [u8]) -> Answer
     requires { ⌜ 1874176 ≤ length (now image) ⌝ }
 {
+    let path = words::word(line, mark, path_at(command));
     match command {
-        Command::Check => check(words::word(line, mark, 1), image),
-        Command::Report => report(words::word(line, mark, 1), image),
-        Command::Show(lost, column, row) => {
-            show(words::word(line, mark, 1), lost, column, row, image)
-        }
         Command::Help => help(),
         Command::Usage => usage(),
-        Command::Make(_, _, _, _) => {
-            change(
-                command,
-                line,
-                mark,
-                words::word(line, mark, 6),
-                image,
-                other,
-            )
-        }
-        _ => change(
-            command,
-            line,
-            mark,
-            words::word(line, mark, 1),
-            image,
-            other,
-        ),
+        Command::Check => view(command, path, image),
+        Command::Report => view(command, path, image),
+        Command::Show(_, _, _) => view(command, path, image),
+        _ => change(command, line, mark, path, image, other),
     }
-}
-
-// Room for the largest image, and a byte more to tell what is longer.
-fn blank() -> [u8; LARGEST + 1]
-    ensures { λ x. ⌜ length x ≡ 1874177 ⌝ }
-{
-    [0u8; LARGEST + 1]
 }
 
 // Does what the words of a line ask, and answers.
 pub fn run(line: &[u8], mark: u8) {
-    let mut image = blank();
-    let mut other = blank();
+    let mut image = files::blank();
+    let mut other = files::blank();
     tell(perform(words::parse(line, mark), line, mark, &mut image, &mut other));
-}
-
-// Puts the program's arguments into a line, with a 0 between two; nothing where they are too long.
-fn gather(line: &mut [u8]) -> Taken
-    ensures { λ x. ⌜ Within (now (line .exit)) x ⌝ }
-{
-    let count = os::arg_count();
-    let mut n: usize = 0;
-    let mut i: usize = 1;
-    while i < count {
-        n += os::arg(i, &mut line[n..]);
-        if os::errno() != 0 {
-            return Taken::Nothing;
-        }
-        i += 1;
-        if i < count {
-            if n >= line.len() {
-                return Taken::Nothing;
-            }
-            line[n] = 0;
-            n += 1;
-        }
-    }
-    Taken::Bytes(n)
 }
 
 // Does what the program's arguments ask.
 pub fn run_arguments() {
     let mut line = [0u8; 16384];
-    let taken = gather(&mut line);
+    let taken = files::gather(&mut line);
     match taken {
         Taken::Bytes(n) => run(&line[0..n], 0),
         Taken::Nothing => tell(usage()),

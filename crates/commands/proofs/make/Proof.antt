@@ -1,12 +1,15 @@
 -- `commands::make` meets its contract.
 -- Assumes nothing.
 use borrow.Author.Needs.{needs}
-use Rattle.commands.proofs.Laws.{taken-within}
+use Rattle.files.proofs.Laws.{taken-within}
 use Rattle.commands.proofs.make.Statement.{statement}
 use Rattle.commands.proofs.make.Tie as tie
 
 is-free-requires : tie.Need-is-free-requires
 is-free-requires c κs = search needs
+
+nothing-requires : tie.Need-nothing-requires
+nothing-requires c κs = search needs
 
 returns : tie.Need-returns
 returns c = search needs
@@ -20,6 +23,9 @@ enum-known-m c = search needs
 enum-told : tie.Need-enum-told
 enum-told c = search needs
 
+nothing-requires-2 : tie.Need-nothing-requires-2
+nothing-requires-2 c κs = search needs
+
 same-length : tie.Need-same-length
 same-length c = search needs
 
@@ -29,26 +35,29 @@ returns-2 c = search needs
 room-requires : tie.Need-room-requires
 room-requires c κs = search needs
 
-sub-make-kept : tie.Need-sub-make-kept
-sub-make-kept c = search needs
+sub-make : tie.Need-sub-make
+sub-make c = search needs
 
-part-make-kept-start : tie.Need-part-make-kept-start
-part-make-kept-start c = search needs
+part-make-start : tie.Need-part-make-start
+part-make-start c = search needs
 
-part-make-kept-end : tie.Need-part-make-kept-end
-part-make-kept-end c = search taken-within
+part-make-end : tie.Need-part-make-end
+part-make-end c = search taken-within
 
-sub-make-kept-2 : tie.Need-sub-make-kept-2
-sub-make-kept-2 c = search needs
+sub-make-2 : tie.Need-sub-make-2
+sub-make-2 c = search needs
 
-part-make-kept-start-2 : tie.Need-part-make-kept-start-2
-part-make-kept-start-2 c = search needs
+part-make-start-2 : tie.Need-part-make-start-2
+part-make-start-2 c = search needs
 
-part-make-kept-end-2 : tie.Need-part-make-kept-end-2
-part-make-kept-end-2 c = search needs
+part-make-end-2 : tie.Need-part-make-end-2
+part-make-end-2 c = search needs
 
-make-kept-requires : tie.Need-make-kept-requires
-make-kept-requires c κs = search needs
+make-requires : tie.Need-make-requires
+make-requires c κs = search needs
+
+said-requires : tie.Need-said-requires
+said-requires c κs = search needs
 
 same-length-2 : tie.Need-same-length-2
 same-length-2 c = search needs
@@ -64,20 +73,23 @@ make-spec =
     tie.close
     (tie.spec
     is-free-requires
+    nothing-requires
     returns
     take-requires
     enum-known-m
     enum-told
+    nothing-requires-2
     same-length
     returns-2
     room-requires
-    sub-make-kept
-    part-make-kept-start
-    part-make-kept-end
-    sub-make-kept-2
-    part-make-kept-start-2
-    part-make-kept-end-2
-    make-kept-requires
+    sub-make
+    part-make-start
+    part-make-end
+    sub-make-2
+    part-make-start-2
+    part-make-end-2
+    make-requires
+    said-requires
     same-length-2
     same-length-3
     returns-3)

@@ -1,7 +1,8 @@
 -- `commands::refill` meets its contract.
 -- Assumes nothing.
+use native.Mathlib.Omega.{arith}
 use borrow.Author.Needs.{needs}
-use Rattle.commands.proofs.Laws.{taken-within}
+use Rattle.files.proofs.Laws.{taken-within}
 use Rattle.commands.proofs.refill.Statement.{statement}
 use Rattle.commands.proofs.refill.Tie as tie
 
@@ -14,29 +15,35 @@ enum-known-n c = search needs
 enum-told : tie.Need-enum-told
 enum-told c = search needs
 
+nothing-requires : tie.Need-nothing-requires
+nothing-requires c κs = search needs
+
 same-length : tie.Need-same-length
 same-length c = search needs
 
 returns : tie.Need-returns
 returns c = search needs
 
-sub-refill-kept : tie.Need-sub-refill-kept
-sub-refill-kept c = search needs
+sub-refill : tie.Need-sub-refill
+sub-refill c = search needs
 
-part-refill-kept-start : tie.Need-part-refill-kept-start
-part-refill-kept-start c = search needs
+part-refill-start : tie.Need-part-refill-start
+part-refill-start c = search needs
 
-part-refill-kept-end : tie.Need-part-refill-kept-end
-part-refill-kept-end c = search taken-within
+part-refill-end : tie.Need-part-refill-end
+part-refill-end c = search taken-within
 
-refill-kept-requires : tie.Need-refill-kept-requires
-refill-kept-requires c κs = search needs
+refill-requires : tie.Need-refill-requires
+refill-requires c κs = search needs
+
+said-requires : tie.Need-said-requires
+said-requires c κs = search needs
 
 same-length-2 : tie.Need-same-length-2
 same-length-2 c = search needs
 
 returns-2 : tie.Need-returns-2
-returns-2 c = search needs
+returns-2 c = omega (arith, part-refill-end (c .before .before .before .before .before))
 
 pub refill-spec : {M : Type 1} → statement M
 refill-spec =
@@ -45,11 +52,13 @@ refill-spec =
     take-requires
     enum-known-n
     enum-told
+    nothing-requires
     same-length
     returns
-    sub-refill-kept
-    part-refill-kept-start
-    part-refill-kept-end
-    refill-kept-requires
+    sub-refill
+    part-refill-start
+    part-refill-end
+    refill-requires
+    said-requires
     same-length-2
     returns-2)

@@ -1,7 +1,7 @@
 -- `commands::run_arguments` meets its contract.
 -- Assumes nothing.
 use borrow.Author.Needs.{needs}
-use Rattle.commands.proofs.Laws.{taken-within}
+use Rattle.files.proofs.Laws.{taken-within}
 use Rattle.commands.proofs.run_arguments.Statement.{statement}
 use Rattle.commands.proofs.run_arguments.Tie as tie
 

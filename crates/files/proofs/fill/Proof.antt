@@ -1,11 +1,11 @@
--- `commands::fill` meets its contract.
+-- `files::fill` meets its contract.
 -- Assumes nothing.
 use Prim.Native.Nat.{_-_, _≤_}
 use mathlib.Core.Path.{_≡_}
 use lib.ListN.{length}
 use borrow.Author.Needs.{needs}
-use Rattle.commands.proofs.fill.Statement.{statement}
-use Rattle.commands.proofs.fill.Tie as tie
+use Rattle.files.proofs.fill.Statement.{statement}
+use Rattle.files.proofs.fill.Tie as tie
 
 abbrev Inv-loop : tie.InvT-loop
 Inv-loop fd path buf₀ n₀ buf n = (n ≤ length buf) × (length buf ≡ length buf₀)

@@ -1,10 +1,10 @@
--- `commands::folder` meets its contract.
+-- `files::folder` meets its contract.
 -- Assumes nothing.
 use Prim.Native.Nat.{_-_, _≤_}
 use lib.ListN.{length}
 use borrow.Author.Needs.{needs}
-use Rattle.commands.proofs.folder.Statement.{statement}
-use Rattle.commands.proofs.folder.Tie as tie
+use Rattle.files.proofs.folder.Statement.{statement}
+use Rattle.files.proofs.folder.Tie as tie
 
 abbrev Inv-loop : tie.InvT-loop
 Inv-loop path n₀ i₀ n i = (i ≤ length path) × (n ≤ i)

@@ -1,10 +1,10 @@
--- `commands::match_all` meets its contract.
+-- `files::match_all` meets its contract.
 -- Assumes nothing.
 use Prim.Native.Nat.{_-_, _≤_}
 use lib.ListN.{length}
 use borrow.Author.Needs.{needs}
-use Rattle.commands.proofs.match_all.Statement.{statement}
-use Rattle.commands.proofs.match_all.Tie as tie
+use Rattle.files.proofs.match_all.Statement.{statement}
+use Rattle.files.proofs.match_all.Tie as tie
 
 abbrev Inv-loop : tie.InvT-loop
 Inv-loop fd bytes at₀ at = at ≤ length bytes

@@ -1,13 +1,12 @@
--- `commands::gather` meets its contract.
+-- `files::gather` meets its contract.
 -- Assumes nothing.
 use Prim.Native.Nat.{_-_, _≤_}
 use mathlib.Core.Path.{_≡_}
 use native.Mathlib.Omega.{arith}
 use lib.ListN.{length, length-set}
 use borrow.Author.Needs.{needs}
-use Rattle.parity.specs.Touches.{count}
-use Rattle.commands.proofs.gather.Statement.{statement}
-use Rattle.commands.proofs.gather.Tie as tie
+use Rattle.files.proofs.gather.Statement.{statement}
+use Rattle.files.proofs.gather.Tie as tie
 
 abbrev Inv-loop : tie.InvT-loop
 Inv-loop line₀ count n₀ i₀ line n i = (n ≤ length line) × (length line ≡ length line₀)

@@ -3,8 +3,8 @@
 use Prim.Native.Nat.{ℕ, _≤_}
 use mathlib.Core.List.{List}
 use lib.ListN.{length}
-use Rattle.commands.specs.declared.Taken.{Taken}
-use Rattle.commands.specs.declared.Taken.the-variants.{Bytes, Nothing}
+use Rattle.files.specs.declared.Taken.{Taken}
+use Rattle.files.specs.declared.Taken.the-variants.{Bytes, Nothing}
 
 -- as many as were taken lie in the buffer
 abbrev pub Within : List ℕ → Taken → Type 0
