@@ -10,10 +10,9 @@ use native.Mathlib.Omega.{arith}
 use lib.Arith.{digits-mod}
 use lib.Bits.{bitXor, bitAnd, differ, and-mask, and-self, and-step, xor-add-and, xor-block, xor-step, xor-zero-r}
 use lib.Count.{trailingZeros, trailing-le, ones-le, under, ones, onesIn, ones-cat}
-use lib.ListN.{length, getD, set}
+use lib.ListN.{length, getD}
 use lib.Pow.{pow-mono, pow-pos, high, mod-pow-add}
 use Rattle.laws.proofs.Bit.{bit-digit, bit-low, bit-high, bit-mod, bit-xor, bit-zero}
-use Rattle.laws.proofs.Patch.{patch-front}
 use Rattle.laws.proofs.Place.{Place, place, before, inside, after}
 use Rattle.laws.proofs.Rows.{row-in, next-row}
 use Rattle.laws.proofs.Xor.{⊕-self, ⊕-zero}
@@ -21,7 +20,7 @@ use Rattle.laws.specs.Bit.{bit, weight}
 use Rattle.laws.specs.Patch.{Patched}
 use Rattle.laws.specs.Sum.{pick}
 use Rattle.laws.specs.Xor.{_⊕_}
-use Rattle.engine.specs.Strips.{added, loaded, scattered, Strip, Rows, Lanes, Laned, Scattered}
+use Rattle.engine.specs.Strips.{added, copied, scattered, Strip, Rows, Lanes, Laned, Scattered}
 
 -- ---- the rows of a mask
 
@@ -198,12 +197,8 @@ named-fits m k x h e = omega (arith, ones-le k x (cut-lt m k x e))
 
 -- ---- lanes of a strip
 
-pub load-more : (s t src : List ℕ) (from n i : ℕ) → Strip s src 0 from n → i < n → Patched s t 0 i (loaded src from) → Patched s (set t i (getD src (from + i) 0)) 0 (i + 1) (loaded src from)
-unfolding loaded
-load-more s t src from n i S h d = patch-front s t i (loaded src from) _ d (omega (arith, S .there)) refl
-
-pub load-strip : (s run strip : List ℕ) (at rows l w : ℕ) → Lanes s strip at rows l w → length run ≡ 128 → Strip run strip 0 l w
-load-strip s run strip at rows l w L e = record { there = omega (arith, L .narrow); here = L .within }
+pub lanes-strip : (s run strip : List ℕ) (at rows l w : ℕ) → Lanes s strip at rows l w → length run ≡ 128 → Strip run strip 0 l w
+lanes-strip s run strip at rows l w L e = record { there = omega (arith, L .narrow); here = L .within }
 
 -- run holds the lanes; those of the rows that `left` names are still to be added, and then the rows that the mask names have them
 pub record Spread (s t strip run : List ℕ) (at rows mask left l w : ℕ) : Type 0 where
@@ -215,9 +210,9 @@ pub record Spread (s t strip run : List ℕ) (at rows mask left l w : ℕ) : Typ
       → getD t (at + q * length strip + x) 0 ⊕ pick (bit left q) (getD strip x 0) ≡ getD s (at + q * length strip + x) 0 ⊕ pick (bit mask q) (getD strip x 0)
   pub other : (o : ℕ) → ((q x : ℕ) → q < rows → l ≤ x → x < l + w → o ≢ at + q * length strip + x) → getD t o 0 ≡ getD s o 0
 
-pub spread-none : (s strip run₀ run : List ℕ) (at rows mask left l w : ℕ) → Lanes s strip at rows l w → Patched run₀ run 0 w (loaded strip l) → left ≡ mask % 2 ^ rows
+pub spread-none : (s strip run₀ run : List ℕ) (at rows mask left l w : ℕ) → Lanes s strip at rows l w → Patched run₀ run 0 w (copied strip l) → left ≡ mask % 2 ^ rows
     → Spread s s strip run at rows mask left l w
-unfolding loaded
+unfolding copied
 spread-none s strip run₀ run at rows mask left l w L R e = record {
   few = L .few;
   within = L .within;
@@ -297,7 +292,7 @@ pub spread-row : (s strip : List ℕ) (at rows left l w q : ℕ) → Lanes s str
 spread-row s strip at rows left l w q L f n h e = omega (arith, spread-fits s strip at rows left l w q L f n h e)
 
 pub spread-strip : (s t strip run₀ run : List ℕ) (at rows mask left l w q : ℕ) → Lanes s strip at rows l w → Spread s t strip run at rows mask left l w → 0 < left → left < 2 ^ rows → q ≡ trailingZeros 64 left
-    → Patched run₀ run 0 w (loaded strip l) → length run₀ ≡ 128 → Strip t run (at + l + q * length strip) 0 w
+    → Patched run₀ run 0 w (copied strip l) → length run₀ ≡ 128 → Strip t run (at + l + q * length strip) 0 w
 spread-strip s t strip run₀ run at rows mask left l w q L S n h e R f = record {
   there = omega (arith, L .inside, L .within, S .len, row-in q rows (length strip) (first-lt left q rows n h (L .few) e));
   here = omega (arith, L .narrow, R .len);

@@ -20,7 +20,7 @@ use Rattle.laws.specs.Sum.{pick, sum}
 use Rattle.laws.specs.Xor.{_⊕_}
 use Rattle.algebra.specs.Word.{pred}
 use Rattle.engine.specs.Mask.{takesOf, maskOf}
-use Rattle.engine.specs.Strips.{added, gathered, taken, Strip, Added, Rows, Columns, onto}
+use Rattle.engine.specs.Strips.{added, gathered, taken, Strip, Rows, Columns, onto}
 
 -- ---- the mask
 
@@ -82,22 +82,16 @@ unfolding added pick _⊕_
 add-more s t src to from n i S h d =
     patch-more s t to i (added s to src from 1) _ d (omega (arith, S .there)) (ap (λ (x : ℕ). bitXor x (getD src (from + i) 0)) (d .above (to + i) (omega arith)))
 
-pub add-on : (s t src : List ℕ) (to from n on : ℕ) → on % 2 ≡ 1 → Patched s t to n (added s to src from 1) → Added s t src to from n on 1
+pub add-on : (s t src : List ℕ) (to from n on : ℕ) → on % 2 ≡ 1 → Patched s t to n (added s to src from 1) → Patched s t to n (added s to src from on)
 unfolding added
-add-on s t src to from n on e d = record {
-  answer = sym e;
-  bytes = patch-by s t to n (added s to src from 1) (added s to src from on) d (λ i h. ap (λ (b : ℕ). getD s (to + i) 0 ⊕ pick b (getD src (from + i) 0)) (sym e));
-}
+add-on s t src to from n on e d =
+    patch-by s t to n (added s to src from 1) (added s to src from on) d (λ i h. ap (λ (b : ℕ). getD s (to + i) 0 ⊕ pick b (getD src (from + i) 0)) (sym e))
 
-pub add-off : (s src : List ℕ) (to from n on : ℕ) → on % 2 ≢ 1 → Added s s src to from n on 0
+pub add-off : (s src : List ℕ) (to from n on : ℕ) → on % 2 ≢ 1 → Patched s s to n (added s to src from on)
 unfolding added pick
 add-off s src to from n on h =
     let e : on % 2 ≡ 0 = omega arith in
-    record {
-      answer = sym e;
-      bytes = patch-same s to n (added s to src from on)
-          (λ i l. sym (⊕-zero (getD s (to + i) 0)) ∙ ap (λ (b : ℕ). getD s (to + i) 0 ⊕ pick b (getD src (from + i) 0)) (sym e));
-    }
+    patch-same s to n (added s to src from on) (λ i l. sym (⊕-zero (getD s (to + i) 0)) ∙ ap (λ (b : ℕ). getD s (to + i) 0 ⊕ pick b (getD src (from + i) 0)) (sym e))
 
 -- ---- the rows of a mask into one strip
 

@@ -1,16 +1,13 @@
 -- Row q of word · column is the XOR of the rows of the word's mask; one strip of a column reaches the rows of (x^t + x^(p-1)) · word.
 -- Assumes nothing.
-use Prim.Native.Nat.{ℕ, zero, suc, _+_, _-_, _*_, _%_, _<_}
+use Prim.Native.Nat.{ℕ, suc, _+_, _-_, _*_, _%_, _<_}
 use mathlib.Core.List.{List, [], _∷_, map}
-use mathlib.Core.Logic.{_≢_}
 use mathlib.Core.Path.{_≡_, refl, sym, ap, ap₂, _∙_}
-use native.Mathlib.Decide.{ℕ-discrete}
 use native.Mathlib.Nat.{mod-eq-of-lt}
 use native.Mathlib.Omega.{arith}
 use lib.ListN.{getD}
 use Rattle.laws.proofs.Bit.{bit-pack, bit-digit}
-use Rattle.laws.proofs.Sum.{sum-ext, sum-back, sum-pick, sum-add, pick-add}
-use Rattle.laws.proofs.Xor.{⊕-assoc, ⊕-comm}
+use Rattle.laws.proofs.Sum.{sum-ext, sum-back, sum-pick, sum-add}
 use Rattle.laws.specs.Bit.{bit}
 use Rattle.laws.specs.Sum.{pick, sum}
 use Rattle.laws.specs.Xor.{_⊕_}
@@ -64,26 +61,3 @@ mask-times n t w q h k =
     ∙ sym (bit-pack (suc n) (D n t n f) q k ∙ mod-eq-of-lt (D-lt n 1 t n f (laneOf-digit (suc n) w) q)
     ∙ D-code n f (laneOf-periodic (suc n) w) t n q (omega arith) (omega arith)
     ∙ ap (λ (x : ℕ). bit w ((q + (suc n - t)) % suc n) ⊕ bit w ((q + x) % suc n)) one)
-
--- a sum in which one term changed
-sum-touched : (n t e : ℕ) (f g : ℕ → ℕ) → t < n → g t ≡ f t ⊕ e → ((i : ℕ) → i < n → i ≢ t → g i ≡ f i) → sum n g ≡ sum n f ⊕ e
-unfolding sum
-sum-touched zero t e f g h c same = absurd (omega arith)
-sum-touched (suc n) t e f g h c same =
-    elim (ℕ-discrete n t) [
-      | yes z ↦
-          ap₂ _⊕_ (sum-ext n (λ i l. same i (omega arith) (omega arith))) (ap g z ∙ c ∙ ap (λ (x : ℕ). f x ⊕ e) (sym z))
-          ∙ sym (⊕-assoc (sum n f) (f n) e)
-      | no z ↦
-          ap₂ _⊕_ (sum-touched n t e f g (omega arith) c (λ i l. same i (omega arith))) (same n (omega arith) z)
-          ∙ ⊕-assoc (sum n f) e (f n) ∙ ap (λ (x : ℕ). sum n f ⊕ x) (⊕-comm e (f n)) ∙ sym (⊕-assoc (sum n f) (f n) e)
-    ]
-
--- where e is added to strip t of a column, it is added to the rows of (x^t + x^(p-1)) · w of w · column
-pub touched : (n t e w q : ℕ) (s s′ : ℕ → ℕ) → t < n → q < suc n → s′ t ≡ s t ⊕ e → ((i : ℕ) → i < n → i ≢ t → s′ i ≡ s i)
-    → act n (bit w) (lane n s′) q ≡ act n (bit w) (lane n s) q ⊕ pick (bit (timesOf (suc n) t n w) q) e
-touched n t e w q s s′ h k c same =
-    let m : ℕ → ℕ = bit (maskOf (suc n) w q) in
-    masked n w q s′
-    ∙ sum-touched n t (pick (m t) e) (λ i. pick (m i) (s i)) (λ i. pick (m i) (s′ i)) h (ap (pick (m t)) c ∙ pick-add (m t) (s t) e) (λ i l d. ap (pick (m i)) (same i l d))
-    ∙ ap₂ (λ (x b : ℕ). x ⊕ pick b e) (sym (masked n w q s)) (mask-times n t w q h k)

@@ -19,8 +19,8 @@ unfoldable pub added : List ℕ → ℕ → List ℕ → ℕ → ℕ → ℕ →
 added s to src from on i = getD s (to + i) 0 ⊕ pick (on % 2) (getD src (from + i) 0)
 
 -- byte i of src at `from`
-unfoldable pub loaded : List ℕ → ℕ → ℕ → ℕ
-loaded src from i = getD src (from + i) 0
+unfoldable pub copied : List ℕ → ℕ → ℕ → ℕ
+copied src from i = getD src (from + i) 0
 
 -- byte i of s, with f i added
 unfoldable pub onto : List ℕ → (ℕ → ℕ) → ℕ → ℕ
@@ -30,11 +30,6 @@ onto s f i = getD s i 0 ⊕ f i
 pub record Strip (s src : List ℕ) (to from n : ℕ) : Type 0 where
   pub there : to + n ≤ length s
   pub here : from + n ≤ length src
-
--- s is now t: the n bytes of src at `from` were added to those at `to` where `on` is odd, which x says
-pub record Added (s t src : List ℕ) (to from n on x : ℕ) : Type 0 where
-  pub answer : x ≡ on % 2
-  pub bytes : Patched s t to n (added s to src from on)
 
 -- ---- the rows of one column
 

@@ -8,7 +8,7 @@ ghost use Rattle.laws.specs.Part.{put, tab};
 ghost use Rattle.laws.specs.Patch.{Patched};
 ghost use Rattle.laws.specs.Xor.{_⊕_};
 ghost use Rattle.engine.specs.Mask.{takesOf, maskOf};
-ghost use Rattle.engine.specs.Strips.{added, loaded, onto, gathered, taken, Strip, Added, Rows, Lanes, Laned, Scattered, Columns};
+ghost use Rattle.engine.specs.Strips.{added, copied, onto, gathered, taken, Strip, Rows, Lanes, Laned, Scattered, Columns};
 
 // Bit i of w.
 fn coefficient(w: u64, i: usize) -> u64
@@ -53,16 +53,13 @@ fn add(s: &mut [u8], to: usize, src: &[u8], from: usize, n: usize)
     }
 }
 
-// The same where the lowest bit of `on` is set; gives that bit.
-fn add_where(s: &mut [u8], to: usize, src: &[u8], from: usize, n: usize, on: u64) -> u64
+// The same where the lowest bit of `on` is set.
+fn add_where(s: &mut [u8], to: usize, src: &[u8], from: usize, n: usize, on: u64)
     requires { ⌜ Strip (now s) (now src) to from n ⌝ }
-    ensures { λ r. ⌜ Added (now (s .entry)) (now (s .exit)) (now (src .entry)) to from n on r ⌝ }
+    ensures { λ _. ⌜ Patched (now (s .entry)) (now (s .exit)) to n (added (now (s .entry)) to (now (src .entry)) from on) ⌝ }
 {
     if on % 2 == 1 {
-        add(s, to, src, from, n);
-        1
-    } else {
-        0
+        add(s, to, src, from, n)
     }
 }
 
@@ -81,14 +78,14 @@ pub fn gather(src: &[u8], at: usize, rows: usize, mask: u64, out: &mut [u8])
     }
 }
 
-// Puts n bytes of src at `from` at the front of run.
-fn load(run: &mut [u8], src: &[u8], from: usize, n: usize)
-    requires { ⌜ Strip (now run) (now src) 0 from n ⌝ }
-    ensures { λ _. ⌜ Patched (now (run .entry)) (now (run .exit)) 0 n (loaded (now (src .entry)) from) ⌝ }
+// Puts the n bytes of src at `from` in the place of those of s at `to`.
+fn copy(s: &mut [u8], to: usize, src: &[u8], from: usize, n: usize)
+    requires { ⌜ Strip (now s) (now src) to from n ⌝ }
+    ensures { λ _. ⌜ Patched (now (s .entry)) (now (s .exit)) to n (copied (now (src .entry)) from) ⌝ }
 {
     let mut i: usize = 0;
     while i < n {
-        run[i] = src[from + i];
+        s[to + i] = src[from + i];
         i += 1;
     }
 }
@@ -124,7 +121,7 @@ fn add_lanes(s: &mut [u8], at: usize, rows: usize, mask: u64, strip: &[u8], l: u
     let b = strip.len();
     let from = at + l;
     let mut run = [0u8; 128];
-    load(&mut run, strip, l, w);
+    copy(&mut run, 0, strip, l, w);
     let mut left = cut(mask, rows);
     while left > 0 {
         let q = first(left);
@@ -212,14 +209,18 @@ pub fn clear(s: &mut [u8], from: usize, n: usize)
     }
 }
 
-// Puts the bytes of src in their place.
+// Puts the bytes of src in their place; an array lets each block of 128 stay in registers.
 pub fn copy_in(s: &mut [u8], at: usize, src: &[u8])
     requires { ⌜ at + length (now src) ≤ length (now s) ⌝ }
     ensures { λ _. ⌜ now (s .exit) ≡ put (now (s .entry)) at (now (src .entry)) ⌝ }
 {
+    let n = src.len();
     let mut i: usize = 0;
-    while i < src.len() {
-        s[at + i] = src[i];
-        i += 1;
+    while n - i >= 128 {
+        let mut block = [0u8; 128];
+        copy(&mut block, 0, src, i, 128);
+        copy(s, at + i, &block, 0, 128);
+        i += 128;
     }
+    copy(s, at + i, src, i, n - i)
 }

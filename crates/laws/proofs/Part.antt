@@ -2,9 +2,7 @@
 -- Assumes nothing.
 use Prim.Native.Nat.{ℕ, _+_, _-_, _<_, _≤_}
 use mathlib.Core.List.{List, _++_}
-use mathlib.Core.Logic.{_⊎_}
 use mathlib.Core.Path.{_≡_, refl, sym, ap, subst, _∙_}
-use native.Mathlib.Nat.{eq-or-lt-of-le}
 use native.Mathlib.Omega.{arith}
 use lib.ListN.{length, getD, take, drop, length-append, length-take, length-drop, List·getD-append}
 use lib.Seq.{getD-take, getD-drop, getD-append-add, ext-getD}
@@ -49,9 +47,6 @@ module _ (s : List ℕ) (at : ℕ) (v : List ℕ) (fits : at + length v ≤ leng
       ∙ getD-append-add v (drop (at + length v) s) (o - (at + length v)) 0
       ∙ getD-drop (at + length v) s (o - (at + length v)) 0
       ∙ ap (λ (k : ℕ). getD s k 0) f
-
-split : (i n : ℕ) → i < n + 1 → (i ≡ n) ⊎ (i < n)
-split i n h = let g : i ≤ n = omega arith in eq-or-lt-of-le g
 
 -- a list is a part put into another, by its bytes
 pub is-put : (t s : List ℕ) (at : ℕ) (v : List ℕ) → at + length v ≤ length s → length t ≡ length s

@@ -1,16 +1,19 @@
 -- Which data strips make up a parity strip, and how many parity strips a data strip touches.
 -- Assumes nothing.
 use Rattle.stripe.specs.declared.Params.{Params}
-use Prim.Native.Nat.{ℕ, zero, suc, _+_, _*_, _<_, _≤_}
-use mathlib.Core.Path.{_≡_, sym, ap, subst, _∙_}
+use Prim.Native.Nat.{ℕ, zero, suc, _+_, _*_, _%_, _<_, _≤_}
+use mathlib.Core.Bool.{Bool, true, false}
+use mathlib.Core.Path.{_≡_, refl, sym, ap, subst, _∙_, fun-ext}
 use native.Mathlib.Omega.{arith}
-use lib.Dec.{T}
+use lib.Dec.{T, ltb}
+use borrow.Author.Tests.{ltb-true}
 use Rattle.laws.proofs.Sum.{sum-ext}
 use Rattle.laws.specs.Bit.{bit, weight}
+use Rattle.laws.specs.Choose.{choose}
 use Rattle.laws.specs.Sum.{sum, pick, total}
 use Rattle.algebra.proofs.Action.{act-word-inverse}
 use Rattle.algebra.proofs.Touch.{touch-is, touches-some, weight-most}
-use Rattle.algebra.specs.Column.{lane}
+use Rattle.algebra.specs.Column.{lane, coefficient}
 use Rattle.algebra.specs.Divide.{over}
 use Rattle.algebra.specs.Prime.{odd-prime}
 use Rattle.algebra.specs.Word.{inverseOf, overOf, timesOf}
@@ -26,13 +29,19 @@ use Rattle.parity.specs.Touches.{touches, touch-word, count}
 pub over-masked : (n a b t : ℕ) (s : ℕ → ℕ) → over n a b (lane n s) t ≡ sum n (λ u. pick (bit (maskOf (suc n) (inverseOf (suc n) a b) t) u) (s u))
 over-masked n a b t s = sym (act-word-inverse n a b (lane n s) t) ∙ masked n (inverseOf (suc n) a b) t s
 
--- parity depends only on the data
+-- a lane is known by its n symbols
+lane-same : (n : ℕ) (f g : ℕ → ℕ) → ((u : ℕ) → u < n → f u ≡ g u) → lane n f ≡ lane n g
+unfolding lane coefficient
+lane-same n f g h = fun-ext (λ t. by-test t (ltb (t % suc n) n) refl)
+  where
+    by-test : (t : ℕ) (b : Bool) → ltb (t % suc n) n ≡ b → choose b (f (t % suc n)) (sum n f) ≡ choose b (g (t % suc n)) (sum n g)
+    by-test t true e = h (t % suc n) (ltb-true (t % suc n) n e)
+    by-test t false e = sum-ext n h
+
+-- parity depends only on the data, whatever is done with its lanes
 pub due-agree : (q : Params) (d e : ℕ → ℕ → ℕ → ℕ) (j t x : ℕ) → ((i u : ℕ) → i < q .k → u < rows q → d i u x ≡ e i u x) → due q d j t x ≡ due q e j t x
 unfolding due
-due-agree q d e j t x h =
-    let n : ℕ = rows q in
-    let m : ℕ → ℕ → ℕ = λ i. bit (maskOf (suc n) (inverseOf (suc n) j (q .r + i)) t) in
-    sum-ext (q .k) (λ i l. over-masked n j (q .r + i) t (λ u. d i u x) ∙ sum-ext n (λ u k. ap (pick (m i u)) (h i u l k)) ∙ sym (over-masked n j (q .r + i) t (λ u. e i u x)))
+due-agree q d e j t x h = sum-ext (q .k) (λ i l. rw (lane-same (rows q) (λ u. d i u x) (λ u. e i u x) (λ u k. h i u l k)))
 
 p-is : (q : Params) → Admitted q → q .p ≡ suc (rows q)
 p-is q a = omega (arith, a .p-low)

@@ -12,7 +12,7 @@ use lib.ListN.{getD, length, take}
 use borrow.Author.Tests.{le-ltb, lt-ltb}
 use Rattle.laws.proofs.Patch.{patched}
 use Rattle.laws.proofs.Rows.{row-in}
-use Rattle.laws.proofs.Tab.{is-tab, length-tab}
+use Rattle.laws.proofs.Tab.{is-tab}
 use Rattle.laws.proofs.Xor.{zero-⊕}
 use Rattle.laws.specs.Choose.{choose}
 use Rattle.laws.specs.Part.{put, tab}
@@ -30,7 +30,7 @@ use Rattle.rebuild.proofs.Ranges.{length-column-words, length-places, p
 use Rattle.rebuild.proofs.Words.{words-right}
 use Rattle.rebuild.specs.Agrees.{AgreesOutside}
 use Rattle.rebuild.specs.Answer.{column-strip-at, few-lost}
-use Rattle.rebuild.specs.Inner.{Begins, Column-filled, Prepared, Repairable, Strip-asked, Strip-lost, Strip-place}
+use Rattle.rebuild.specs.Inner.{Begins, Column-filled, Prepared, Strip-asked, Strip-lost, Strip-place}
 use Rattle.rebuild.specs.Lost.{is-lost, rebuilt, whole-byte}
 use Rattle.rebuild.specs.Words.{column-words, places}
 
@@ -74,9 +74,6 @@ module _ (q : Params) (m : ℕ) (few : T (few-lost q m)) where
 -- ---- restoring one strip
 
 module _ (s : List ℕ) (q : Params) (m n t : ℕ) (out : List ℕ) (L : Strip-lost s q m n t out) where
-  pub lost-repairable : Repairable q m
-  lost-repairable = record { admitted = L .image .admitted; few = L .few }
-
   module _ (ats ws : List ℕ) (A : Begins (places q m) ats) (W : Begins (column-words q m n) ws) where
     pub strip-columns : Columns (q .p) t s (take (q .k - 0) ats) (take (q .k - 0) ws) out
     strip-columns = rw (places-lent q m (L .few) ats A, words-lent q m (L .few) n ws W) (places-columns s out q m n t (L .image) (L .few) (L .row) (L .room))
@@ -93,12 +90,6 @@ module _ (s : List ℕ) (q : Params) (n t : ℕ) (ats ws out : List ℕ) (S : St
     (e : u ≡ tab (length out) (taken (q .p) s (length out) t ats ws)) (x : ℕ) (P : Strip-place q n t x) where
   strip-is : u ≡ tab (q .b) (taken (q .p) s (q .b) t ats ws)
   strip-is = e ∙ ap (λ (b : ℕ). tab b (taken (q .p) s b t ats ws)) (S .room)
-
-  length-strip : length u ≡ q .b
-  length-strip = ap length strip-is ∙ length-tab (q .b) (taken (q .p) s (q .b) t ats ws)
-
-  pub strip-fits : x + length u ≤ length s
-  strip-fits = omega (arith, length-strip, P .inside, S .len)
 
   pub strip-put : (v : List ℕ) → v ≡ put s x u → Patched s v (column-strip-at q n t) (q .b) (taken (q .p) s (q .b) t ats ws)
   unfolding patch

@@ -10,7 +10,7 @@ use lib.Bits.{bitXor}
 use lib.Dec.{T, ltb, ltb→lt}
 use lib.Pow.{split, pow-pos, pow-mono, pow-add, pow-lt, shr-lt}
 use borrow.Author.Tests.{eq-eqb, ne-eqb}
-use Rattle.laws.proofs.Bit.{bit-shr, bit-mod, bit-low, bit-high, pack-lt, is-pack, pack-ext, pack-xor, pack-zero, pack-pick}
+use Rattle.laws.proofs.Bit.{bit-shr, bit-mod, bit-low, bit-high, is-pack, pack-ext, pack-xor, pack-zero, pack-pick}
 use Rattle.laws.proofs.Choose.{implied, below-at}
 use Rattle.laws.specs.Bit.{bit, pack}
 use Rattle.laws.specs.Choose.{implies, below}
@@ -93,10 +93,6 @@ module _ (w a p : ℕ) (hw : w < 2 ^ p) (ha : a ≤ p) (hp : p ≤ 61) where
       turn-is
       ∙ is-pack p (w % 2 ^ (p - a) * 2 ^ a + w / 2 ^ (p - a)) (λ q. laneOf p w (q + a * pred p)) turned-lt
       (λ q h. turn-bits q h ∙ lane-lower q h ∙ sym (mod-eq-of-lt (laneOf-digit p w (q + a * pred p))))
-
-pub turn-lt : (p a w x : ℕ) → x ≡ turnOf p a w → x < 2 ^ p
-unfolding turnOf
-turn-lt p a w x e = subst (λ (y : ℕ). y < 2 ^ p) (sym e) (pack-lt p (λ q. laneOf p w (q + a * pred p)))
 
 -- ---- times
 

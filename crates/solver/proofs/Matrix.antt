@@ -9,16 +9,15 @@ use native.Mathlib.Nat.{not-suc-le-zero, ne-of-lt, mod-eq-of-lt}
 use native.Mathlib.Omega.{arith}
 use lib.ListN.{length, getD, set, take, drop, replicate, length-set, length-replicate, getD-replicate}
 use lib.Pow.{pow-pos, pow-mono}
-use lib.Seq.{getD-set-same, getD-set-other, take-set-lt, getD-drop, length-take-le, getD-take}
+use lib.Seq.{getD-set-same, getD-set-other, take-set-lt, getD-drop}
 use borrow.Author.Count.{below-none, below-more}
 use borrow.Rule.Slice.PartMut.{postOf}
-use Rattle.algebra.proofs.Bounds.{entry-lt}
 use Rattle.algebra.proofs.Prime.{prime-three}
 use Rattle.algebra.proofs.Solves.{length-unit, getD-zeros}
 use Rattle.algebra.specs.Prime.{Modulus}
 use Rattle.algebra.specs.Recovery.{solveOf, unitOf, entryOf}
 use Rattle.algebra.specs.Word.{one}
-use Rattle.solver.proofs.Lists.{words-set, words-by}
+use Rattle.solver.proofs.Lists.{words-set}
 use Rattle.solver.specs.Matrix.{Solvable, Square, Column, Placed, Recovery, cell}
 use Rattle.solver.specs.System.{System, Words}
 
@@ -169,17 +168,3 @@ module _ (p : ℕ) (xs ys : List ℕ) where
 
   pub recovery-end : (m : List (List ℕ)) (n : ℕ) → Recovery p xs ys n m → n ≤ length xs → length xs ≤ n → Recovery p xs ys (length xs) m
   recovery-end m n r h g = let z : n ≡ length xs = omega arith in subst (λ (i : ℕ). Recovery p xs ys i m) z r
-
--- ---- a row of the matrix, cut to the words of the system
-
-module _ (p : ℕ) (xs ys : List ℕ) (m : List (List ℕ)) (few : length xs ≤ 30) (r : Recovery p xs ys (length xs) m) (u : ℕ) (h : u < 30) where
-  pub line-length : length (take (length xs) (getD m u [])) ≡ length xs
-  line-length = length-take-le (length xs) (getD m u []) (omega (arith, r .shape .width u h))
-
-  pub line-at : (v : ℕ) → v < length xs → getD (take (length xs) (getD m u [])) v 0 ≡ entryOf p xs ys u v
-  line-at v l = getD-take (length xs) (getD m u []) v 0 l ∙ r .inner u v h l
-
-  pub line-words : Words p (take (length xs) (getD m u []))
-  line-words =
-      words-by p (take (length xs) (getD m u []))
-      (λ v l. subst (λ (w : ℕ). w < 2 ^ p) (sym (line-at v (omega (arith, line-length)))) (entry-lt p xs ys u v))

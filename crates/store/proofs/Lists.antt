@@ -1,10 +1,9 @@
 -- Tests as equations of Bool, sublists and permutations.
 -- Assumes nothing.
-use Prim.Native.Nat.{ℕ, _≤_, _<_}
+use Prim.Native.Nat.{ℕ, _<_}
 use mathlib.Core.Bool.{Bool, true, false, _&&_, true≢false, false≢true}
 use mathlib.Core.List.{List, [], _∷_}
 use mathlib.Core.Path.{_≡_, refl, sym, ap, subst, _∙_}
-use native.Mathlib.Omega.{arith}
 use lib.Dec.{T, eqb, ltb, eqb→eq, eqb-refl, ltb→lt}
 use Rattle.laws.proofs.Choose.{true-T, T-true}
 use Rattle.laws.specs.Choose.{choose}
@@ -30,13 +29,6 @@ false-eqb m n e h = true≢false (sym (eqb-true m n h) ∙ e)
 
 pub true-ltb : (m n : ℕ) → ltb m n ≡ true → m < n
 true-ltb m n e = ltb→lt m n (true-T (ltb m n) e)
-
-pub ltb-false : (m n : ℕ) → n ≤ m → ltb m n ≡ false
-ltb-false m n h = go (ltb m n) refl
-  where
-    go : (b : Bool) → ltb m n ≡ b → ltb m n ≡ false
-    go true e = let l = true-ltb m n e in absurd (omega arith)
-    go false e = e
 
 pub and-left : (a b : Bool) → (a && b) ≡ true → a ≡ true
 and-left true b e = refl

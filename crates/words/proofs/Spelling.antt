@@ -27,15 +27,6 @@ pub a-digit : (c : ℕ) → 48 ≤ c → c ≤ 57 → c - 48 ≡ digit-or-ten c
 unfolding digit-or-ten is-digit
 a-digit c g h = simp (le-leb 48 c g, le-leb c 57 h)
 
-pub digit-fits : (c : ℕ) → digit-or-ten c ≤ 10
-unfolding digit-or-ten is-digit
-digit-fits c = go (leb 48 c) (leb c 57) (leb-true c 57)
-  where
-    go : (a b : Bool) → (b ≡ true → c ≤ 57) → choose (a && b) (c - 48) 10 ≤ 10
-    go true true h = omega (arith, h refl)
-    go true false h = omega arith
-    go false b h = omega arith
-
 -- what a byte is, by the number that stands for it
 digit-is : (c d : ℕ) → d ≡ digit-or-ten c → d ≤ 9 → (is-digit c ≡ true) × (d ≡ c - 48)
 unfolding digit-or-ten

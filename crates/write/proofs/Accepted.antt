@@ -1,6 +1,6 @@
 -- What the image holds after an accepted write.
 -- Assumes nothing.
-use Prim.Native.Nat.{ℕ, _+_, _*_, _<_, _≤_, zero, suc, _-_, _/_, _%_, _^_}
+use Prim.Native.Nat.{ℕ, _+_, _*_, _<_, _≤_, _-_, _/_, _%_, _^_}
 use mathlib.Core.Bool.{Bool, true, false}
 use mathlib.Core.List.{List}
 use mathlib.Core.Logic.{_⊎_, inl, inr, ⊎-elim, _≢_, _↔_}
@@ -17,7 +17,6 @@ use Rattle.laws.proofs.Part.{length-put, getD-put-before, getD-put-in, getD-put
 use Rattle.laws.proofs.Patch.{patched}
 use Rattle.laws.proofs.Place.{Place, place, before, inside, after}
 use Rattle.laws.proofs.Rows.{row-in}
-use Rattle.laws.proofs.Xor.{⊕-lt}
 use Rattle.laws.specs.Choose.{choose}
 use Rattle.laws.specs.Number.{byte}
 use Rattle.laws.specs.Part.{put}
@@ -44,20 +43,6 @@ revision-same s u i h =
     let a : ℕ = revision-at i in
     omega (arith, h a (omega arith) (omega arith), h (a + 1) (omega arith) (omega arith), h (a + 2) (omega arith) (omega arith), h (a + 2 + 1) (omega arith) (omega arith))
 
--- a patch of bytes leaves bytes
-patch-bytes : (s t : List ℕ) (at n : ℕ) (f : ℕ → ℕ) → Patched s t at n f → ((o : ℕ) → getD s o 0 < 256) → ((x : ℕ) → x < n → f x < 256) → (o : ℕ) → getD t o 0 < 256
-patch-bytes s t at n f d hs hf o = go (place at n o)
-  where
-    go : Place at n o → getD t o 0 < 256
-    go (before h) = rw (d .below o h) (hs o)
-    go (inside k h e) = rw (e, d .inner k h) (hf k h)
-    go (after h) = rw (d .above o h) (hs o)
-
-pick-lt : (b x : ℕ) → x < 256 → pick b x < 256
-unfolding pick
-pick-lt zero x h = omega arith
-pick-lt (suc b) x h = h
-
 -- byte x of strip u of parity column j, among all bytes of parity
 moved-at : (s : List ℕ) (q : Params) (i t : ℕ) (v : List ℕ) (j u x : ℕ) → u < rows q → x < q .b
     → moved s q i t v (j * column-length q + (u * q .b + x)) ≡ parity-byte s q j u x ⊕ pick (touches q i t j u) (difference s q i t v x)
@@ -66,11 +51,6 @@ moved-at s q i t v j u x hu hx =
     let l : u * q .b + x < column-length q = omega (arith, row-in u (rows q) (q .b) hu) in
     let z : parity-from q + (j * column-length q + (u * q .b + x)) ≡ parity-strip-at q j u + x = omega arith in
     rw (z, digits-div j l, digits-mod j l, digits-div u hx, digits-mod u hx)
-
-moved-byte : (s : List ℕ) (q : Params) (i t : ℕ) (v : List ℕ) → ((o : ℕ) → getD s o 0 < 256) → ((x : ℕ) → getD v x 0 < 256) → (o : ℕ) → moved s q i t v o < 256
-unfolding moved difference
-moved-byte s q i t v hs hv o =
-    ⊕-lt 8 (getD s (parity-from q + o) 0) _ (hs _) (pick-lt (touches q i t (o / column-length q) (o % column-length q / q .b)) _ (⊕-lt 8 (data-byte s q i t (o % column-length q % q .b)) _ (hs _) (hv _)))
 
 module _ (s : List ℕ) (q : Params) (i t b : ℕ) (v : List ℕ) (I : Image s q) (hi : i < q .k) (ht : t < rows q) (hv : length v ≡ q .b) where
   shift : List ℕ
@@ -151,12 +131,6 @@ module _ (s : List ℕ) (q : Params) (i t b : ℕ) (v : List ℕ) (I : Image s q
   written-revision-elsewhere i′ h n =
       revision-same s (written s q i t b v) i′
       (λ o g l. same o (omega arith) (inl (omega arith)) (⊎-elim (λ c. inl (omega arith)) (λ c. inr (omega arith)) (revisions-apart i′ i n)))
-
-  -- bytes stay bytes
-  pub written-bytes : ((o : ℕ) → getD s o 0 < 256) → ((x : ℕ) → getD v x 0 < 256) → (o : ℕ) → getD (written s q i t b v) o 0 < 256
-  written-bytes hs hw = patch-bytes _ _ _ _ _ revision-step
-      (patch-bytes _ _ _ _ _ strip-step (patch-bytes _ _ _ _ _ parity-step hs (λ o h. moved-byte s q i t v hs hw o)) (λ x h. hw x))
-      (λ o h. mod-lt (renewed b / 256 ^ o) (omega arith))
 
   -- the bytes of revisions stay bytes, whatever the strip is made of
   pub written-small : ((o : ℕ) → o < data-count-at q → getD s o 0 < 256) → (o : ℕ) → o < data-count-at q → getD (written s q i t b v) o 0 < 256

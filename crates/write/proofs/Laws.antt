@@ -3,15 +3,14 @@
 use Prim.Native.Nat.{ℕ, zero, suc, _+_, _-_, _*_, _/_, _%_, _^_, _<_, _≤_}
 use mathlib.Core.List.{List}
 use mathlib.Core.Path.{_≡_, refl, sym, ap, ap₂, subst, _∙_}
-use native.Mathlib.Nat.{mul-le-mul, mod-lt}
+use native.Mathlib.Nat.{mod-lt}
 use native.Mathlib.Omega.{arith}
 use lib.Arith.{digits-div, digits-mod}
 use lib.Bits.{bitXor}
 use lib.ListN.{length, getD, set}
 use Rattle.laws.specs.Left.{Leaves}
 use Rattle.laws.proofs.Bit.{pack-lt}
-use Rattle.laws.proofs.Part.{is-put}
-use Rattle.laws.proofs.Patch.{patch-front, patch-all, patch-more, patch-none, patch-join, is-patch, patch-by, patched}
+use Rattle.laws.proofs.Patch.{patch-front, patch-all, patch-none, patch-join, is-patch, patch-by, patched}
 use Rattle.laws.proofs.Rows.{next-row}
 use Rattle.laws.proofs.Tab.{length-tab, getD-tab}
 use Rattle.laws.specs.Bit.{bit, weight}
@@ -26,7 +25,6 @@ use Rattle.algebra.specs.Divide.{quot}
 use Rattle.algebra.specs.Word.{inverseOf, timesOf, overOf, pred}
 use Rattle.stripe.proofs.Places.{parity-column-in, strip-in, parity-in, parity-end}
 use Rattle.stripe.specs.Layout.{column-length, parity-from, parity-at, rows, strip-at, revision-at}
-use Rattle.stripe.specs.Params.{Admitted}
 use Rattle.stripe.specs.declared.Params.{Params}
 use Rattle.parity.specs.Touches.{touch-word, touches, count}
 use Rattle.engine.specs.Strips.{Rows, Scattered, scattered}
@@ -116,11 +114,6 @@ scatter-few s q i t u y d at w x T a = omega (arith, a .count, weight-most w (q 
 
 pub crossing : (s : List ℕ) (q : Params) (i t : ℕ) (d : List ℕ) (j : ℕ) → Target s q i t d → j < q .r → Crossing q i t j
 crossing s q i t d j T h = record { admitted = T .accepted .admitted; column = T .column; row = T .row; parity = h }
-
--- ---- the place of a strip
-
-pub row-small : (q : Params) (t : ℕ) → Admitted q → t < rows q → t * q .b ≤ 30720
-row-small q t a h = mul-le-mul {n₁ = t} {m₁ = q .b} {n₂ = 60} {m₂ = 512} (omega (arith, a .p-high)) (a .b-high)
 
 -- ---- the difference of a new strip, added to parity
 

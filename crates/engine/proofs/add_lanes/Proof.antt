@@ -4,7 +4,7 @@ use Prim.Native.Nat.{_^_, _<_}
 use mathlib.Core.Path.{refl}
 use native.Mathlib.Omega.{arith}
 use borrow.Author.Needs.{needs}
-use Rattle.engine.proofs.Lanes.{Spread, cut-lt, spread-none, later-less, later-small, spread-more, spread-end, load-strip, spread-row, spread-fits, spread-strip}
+use Rattle.engine.proofs.Lanes.{Spread, cut-lt, spread-none, later-less, later-small, spread-more, spread-end, lanes-strip, spread-row, spread-fits, spread-strip}
 use Rattle.engine.proofs.add_lanes.Statement.{statement}
 use Rattle.engine.proofs.add_lanes.Tie as tie
 
@@ -17,17 +17,17 @@ abbrev μ-loop : tie.MeasureT-loop
 add-from : tie.Need-add-from Inv-loop μ-loop
 add-from c = omega arith
 
-slice-aggregate-load : tie.Need-slice-aggregate-load Inv-loop μ-loop
-slice-aggregate-load c = refl
+slice-aggregate-copy : tie.Need-slice-aggregate-copy Inv-loop μ-loop
+slice-aggregate-copy c = refl
 
-load-requires : tie.Need-load-requires Inv-loop μ-loop
-load-requires c κs = search load-strip
+copy-requires : tie.Need-copy-requires Inv-loop μ-loop
+copy-requires c κs = search lanes-strip
 
 cut-requires : tie.Need-cut-requires Inv-loop μ-loop
 cut-requires c κs = omega arith
 
 loop-holds : tie.Need-loop-holds Inv-loop μ-loop
-loop-holds c = (search cut-lt, search spread-none)
+loop-holds c = (search cut-lt, search (spread-none, c .before .before .copy .ensures))
 
 first-requires : tie.Need-first-requires Inv-loop μ-loop
 first-requires c κs = omega arith
@@ -66,8 +66,8 @@ add-lanes-spec =
     Inv-loop
     μ-loop
     add-from
-    slice-aggregate-load
-    load-requires
+    slice-aggregate-copy
+    copy-requires
     cut-requires
     loop-holds
     first-requires
