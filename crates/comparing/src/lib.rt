@@ -1,0 +1,190 @@
+// Each call of the library beside the same call of the second implementation: answers and every lent byte are compared.
+use parity::Checkup;
+use parity::Outcome;
+use ring::Element;
+use second::Answer;
+use second::Shape;
+use second::answered;
+use total::add;
+use total::one_at;
+use total::unlike;
+use write::Written;
+
+// What was seen: cases, differences, and a bit for each number of refusal, bit 0 for none.
+pub struct Tally {
+    pub cases: usize,
+    pub differences: usize,
+    pub refusals: u64,
+}
+
+// Nothing seen yet.
+pub fn nothing() -> Tally {
+    Tally {
+        cases: 0,
+        differences: 0,
+        refusals: 0,
+    }
+}
+
+// One more case.
+pub fn counted(t: Tally) -> Tally {
+    Tally {
+        cases: add(t.cases, 1),
+        differences: t.differences,
+        refusals: t.refusals,
+    }
+}
+
+// More differences, and the number of a refusal that the library gave.
+pub fn noted(t: Tally, differences: usize, refusal: u64) -> Tally {
+    Tally {
+        cases: t.cases,
+        differences: add(t.differences, differences),
+        refusals: t.refusals | one_at(refusal as usize),
+    }
+}
+
+// 1 for different numbers, else 0.
+pub fn apart(a: u64, b: u64) -> usize {
+    if a != b { 1 } else { 0 }
+}
+
+// How many of the numbers of two answers are different.
+pub fn answers_apart(a: Answer, b: Answer) -> usize {
+    let numbers = add(apart(a.first, b.first), apart(a.second, b.second));
+    add(apart(a.refusal, b.refusal), numbers)
+}
+
+// How many bytes are different in two slices, and one more where their lengths are.
+pub fn slices_apart(s: &[u8], t: &[u8]) -> usize {
+    add(
+        apart(s.len() as u64, t.len() as u64),
+        unlike(s, t, 0, s.len()),
+    )
+}
+
+// The answer of the ring's calls in numbers.
+fn of_element(e: Element) -> Answer {
+    match e {
+        Element::Word(w) => answered(0, w, 0),
+        Element::Refused(no) => answered(no.number(), 0, 0),
+    }
+}
+
+// The answer of check in numbers.
+fn of_checkup(c: Checkup) -> Answer {
+    match c {
+        Checkup::Wrong(w) => answered(0, w, 0),
+        Checkup::Refused(no) => answered(no.number(), 0, 0),
+    }
+}
+
+// The answer of write in numbers.
+pub fn of_written(w: Written) -> Answer {
+    match w {
+        Written::Accepted(revision, count) => answered(0, revision as u64, count),
+        Written::Refused(no) => answered(no.number(), 0, 0),
+    }
+}
+
+// The number of a refusal, or 0.
+pub fn of_outcome(o: Outcome) -> u64 {
+    match o {
+        Outcome::Done => 0,
+        Outcome::Refused(no) => no.number(),
+    }
+}
+
+// The product of two words.
+pub fn product(t: Tally, p: usize, u: u64, v: u64) -> Tally {
+    let a = of_element(ring::product(p, u, v));
+    let b = second::product(p, u, v);
+    noted(t, answers_apart(a, b), a.refusal)
+}
+
+// The division of a word.
+pub fn divide(t: Tally, p: usize, s: u64, a: usize, b: usize, slip: u64) -> Tally {
+    let one = of_element(ring::divide(p, s, a, b));
+    let two = second::divide(p, s, a, b, slip);
+    noted(t, answers_apart(one, two), one.refusal)
+}
+
+// Make.
+pub fn make(t: Tally, q: Shape, given: &[u8], one: &mut [u8], two: &mut [u8]) -> Tally {
+    let a = of_outcome(parity::make(q.p, q.k, q.r, q.b, given, one));
+    let b = second::make(q.p, q.k, q.r, q.b, given, two, q.slip);
+    noted(t, add(apart(a, b), slices_apart(one, two)), a)
+}
+
+// Refill.
+pub fn refill(t: Tally, one: &mut [u8], two: &mut [u8], slip: u64) -> Tally {
+    let a = of_outcome(parity::refill(one));
+    let b = second::refill(two, slip);
+    noted(t, add(apart(a, b), slices_apart(one, two)), a)
+}
+
+// Check.
+pub fn check(t: Tally, image: &[u8], room: &mut [u8], slip: u64) -> Tally {
+    let a = of_checkup(parity::check(image));
+    let b = second::check(image, room, slip);
+    noted(t, answers_apart(a, b), a.refusal)
+}
+
+// Rebuild.
+pub fn rebuild(
+    t: Tally,
+    one: &mut [u8],
+    two: &mut [u8],
+    lost: u64,
+    m: &mut [u64],
+    slip: u64,
+) -> Tally {
+    let a = of_outcome(rebuild::rebuild(one, lost));
+    let b = second_lost::rebuild(two, lost, m, slip);
+    noted(t, add(apart(a, b), slices_apart(one, two)), a)
+}
+
+// How many bytes are different in two scratches.
+fn scratches_apart(s: &[u8; 600], t: &[u8; 600]) -> usize {
+    slices_apart(s, t)
+}
+
+// Restore one strip into scratch of a length up to 600.
+pub fn restore(
+    t: Tally,
+    image: &[u8],
+    lost: u64,
+    column: usize,
+    row: usize,
+    length: usize,
+    room: &mut [u8],
+    m: &mut [u64],
+    slip: u64,
+) -> Tally {
+    let mut one = [7u8; 600];
+    let mut two = [7u8; 600];
+    if length > 600 {
+        return t;
+    }
+    let a = of_outcome(rebuild::restore(image, lost, column, row, &mut one[0..length]));
+    let b = second_lost::restore(image, lost, column, row, &mut two[0..length], room, m, slip);
+    noted(t, add(apart(a, b), scratches_apart(&one, &two)), a)
+}
+
+// Show and the number of its refusal.
+pub fn show<'a>(
+    t: Tally,
+    image: &'a [u8],
+    lost: u64,
+    column: usize,
+    row: usize,
+    scratch: &'a [u8],
+) -> Tally {
+    let bytes = slices_apart(
+        rebuild::show(image, lost, column, row, scratch),
+        second_lost::show(image, lost, column, row, scratch),
+    );
+    let a = rebuild::show_refusal(image, lost, column, row, scratch);
+    let b = second_lost::show_refusal(image, lost, column, row, scratch);
+    noted(t, add(apart(a, b), bytes), a)
+}

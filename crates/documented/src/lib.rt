@@ -1,0 +1,205 @@
+// The examples of document 01 that are run and not proved, its limits and its slips: both implementations give what the document says.
+use comparing::Tally;
+use comparing::apart;
+use comparing::counted;
+use comparing::noted;
+use comparing::of_outcome;
+use comparing::of_written;
+use comparing::slices_apart;
+use second::shaped;
+use stripe::Checked;
+use stripe::Params;
+use stripe::Reading;
+use total::add;
+use total::part;
+
+// An image of 40 bytes.
+fn image_of(bytes: &[u8]) -> [u8; 40] {
+    let mut image = [0u8; 40];
+    total::copy(&mut image, 0, bytes, 0, 40);
+    image
+}
+
+// The image I.
+pub fn example() -> [u8; 40] {
+    image_of(
+        b"\x04\x00\x05\x00\x02\x00\x02\x00\x01\x00\x02\x00\x00\x00\x00\x00\x07\x00\x00\x00\x02\x00\x01\x00\x00\x00\x00\x02\x00\x00\x02\x00\x03\x00\x03\x02\x03\x03\x03\x00",
+    )
+}
+
+// I with other bytes in both data columns.
+pub fn spoiled_example() -> [u8; 40] {
+    image_of(
+        b"\x04\x00\x05\x00\x02\x00\x02\x00\x01\x00\x02\x00\x00\x00\x00\x00\x07\x00\x00\x00\x02\x00\xff\x01\x4d\x09\x03\xff\x00\x12\x02\x00\x03\x00\x03\x02\x03\x03\x03\x00",
+    )
+}
+
+// The number of a refusal of parameters, or 0.
+fn of_checked(c: Checked) -> u64 {
+    match c {
+        Checked::Sound(_) => 0,
+        Checked::Refused(e) => e.number(),
+    }
+}
+
+// The number of a refusal of an image, or 0.
+fn of_reading(r: Reading) -> u64 {
+    match r {
+        Reading::Stripe(_) => 0,
+        Reading::Refused(e) => e.number(),
+    }
+}
+
+// Two numbers that are both to be the due one.
+fn due(t: Tally, a: u64, b: u64, number: u64) -> Tally {
+    noted(counted(t), add(apart(a, number), apart(b, number)), a)
+}
+
+// Two images that are both to be the due one.
+fn image_due(t: Tally, one: &[u8], two: &[u8], image: &[u8]) -> Tally {
+    noted(
+        t,
+        add(slices_apart(one, image), slices_apart(two, image)),
+        0,
+    )
+}
+
+// Parameters and their refusal.
+fn limit(t: Tally, p: usize, k: usize, r: usize, b: usize, number: u64) -> Tally {
+    let q = shaped(p, k, r, b, 0);
+    due(
+        t,
+        of_checked(Params::checked(p, k, r, b)),
+        q.refusal,
+        number,
+    )
+}
+
+// An image and its refusal.
+fn reading(t: Tally, image: &[u8], number: u64) -> Tally {
+    let q = second::read(image, 0);
+    due(t, of_reading(stripe::read(image)), q.refusal, number)
+}
+
+// The limits of the parameters.
+fn parameter_limits(t: Tally) -> Tally {
+    let t1 = limit(t, 61, 60, 1, 1, 0);
+    let t2 = limit(t1, 61, 60, 2, 1, 5);
+    let t3 = limit(t2, 2, 1, 1, 1, 4);
+    let t4 = limit(t3, 9, 1, 1, 1, 4);
+    let t5 = limit(t4, 67, 1, 1, 1, 4);
+    let t6 = limit(t5, 3, 1, 1, 512, 0);
+    limit(t6, 3, 1, 1, 513, 6)
+}
+
+// The limits: of the parameters, I less one byte, I, I with one more.
+pub fn limits(t: Tally) -> Tally {
+    let longer =
+        b"\x04\x00\x05\x00\x02\x00\x02\x00\x01\x00\x02\x00\x00\x00\x00\x00\x07\x00\x00\x00\x02\x00\x01\x00\x00\x00\x00\x02\x00\x00\x02\x00\x03\x00\x03\x02\x03\x03\x03\x00\x00";
+    let t1 = parameter_limits(t);
+    let t2 = reading(t1, part(longer, 0, 39), 1);
+    let t3 = reading(t2, part(longer, 0, 40), 0);
+    reading(t3, part(longer, 0, 41), 2)
+}
+
+// Make, and the due image; the lent images are of its length.
+fn made(
+    t: Tally,
+    p: usize,
+    k: usize,
+    r: usize,
+    given: &[u8],
+    one: &mut [u8],
+    two: &mut [u8],
+    image: &[u8],
+    slip: u64,
+) -> Tally {
+    let a = of_outcome(parity::make(p, k, r, 1, given, one));
+    let b = second::make(p, k, r, 1, given, two, slip);
+    let t1 = due(t, a, b, 0);
+    image_due(t1, one, two, image)
+}
+
+// The zeroed-coefficient form is not stored: P4.
+fn zeroed(t: Tally, slip: u64) -> Tally {
+    let mut one = [0u8; 40];
+    let mut two = [0u8; 40];
+    made(
+        t,
+        5,
+        2,
+        2,
+        b"\x01\x00\x00\x00\x00\x00\x00\x00",
+        &mut one,
+        &mut two,
+        b"\x04\x00\x05\x00\x02\x00\x02\x00\x01\x00\x02\x00\x00\x00\x00\x00\x00\x00\x00\x00\x02\x00\x01\x00\x00\x00\x00\x00\x00\x00\x02\x00\x01\x00\x01\x00\x01\x01\x01\x00",
+        slip,
+    )
+}
+
+// The exponents are r+i and j: P3.
+fn exponents(t: Tally, slip: u64) -> Tally {
+    let mut one = [0u8; 26];
+    let mut two = [0u8; 26];
+    made(
+        t,
+        3,
+        1,
+        2,
+        b"\xa5\x0f",
+        &mut one,
+        &mut two,
+        b"\x04\x00\x03\x00\x01\x00\x02\x00\x01\x00\x01\x00\x00\x00\x00\x00\x01\x00\xa5\x0f\x02\x00\x0f\xaa\xa5\x0f",
+        slip,
+    )
+}
+
+// A write of 00 to column 0, row 0 of an image against a base: the due refusal, and the due image.
+fn write_due(
+    t: Tally,
+    one: &mut [u8],
+    two: &mut [u8],
+    base: u32,
+    number: u64,
+    image: &[u8],
+    slip: u64,
+) -> Tally {
+    let a = of_written(write::write(one, 0, 0, base, b"\x00"));
+    let b = second::write(two, 0, 0, base, b"\x00", slip);
+    let t1 = due(t, a.refusal, b.refusal, number);
+    image_due(t1, one, two, image)
+}
+
+// A base before the revision on the circle is STALE; a changed strip also changes coefficient p-1, so rows 0 and 2 of parity 0 move.
+fn writes(t: Tally, slip: u64) -> Tally {
+    let mut one = example();
+    let mut two = example();
+    let t1 = write_due(t, &mut one, &mut two, 4294967295, 10, &example(), slip);
+    write_due(
+        t1,
+        &mut one,
+        &mut two,
+        0,
+        0,
+        b"\x04\x00\x05\x00\x02\x00\x02\x00\x01\x00\x02\x00\x01\x00\x00\x00\x07\x00\x00\x00\x02\x00\x00\x00\x00\x00\x00\x02\x00\x00\x02\x00\x02\x00\x02\x02\x02\x02\x02\x00",
+        slip,
+    )
+}
+
+// A lost column's bytes are not read.
+fn lost(t: Tally, m: &mut [u64], slip: u64) -> Tally {
+    let mut one = spoiled_example();
+    let mut two = spoiled_example();
+    let a = of_outcome(rebuild::rebuild(&mut one, 3));
+    let b = second_lost::rebuild(&mut two, 3, m, slip);
+    let t1 = due(t, a, b, 0);
+    image_due(t1, &one, &two, &example())
+}
+
+// The slips: the calls that each would spoil.
+pub fn slips(t: Tally, m: &mut [u64], slip: u64) -> Tally {
+    let t1 = zeroed(t, slip);
+    let t2 = exponents(t1, slip);
+    let t3 = writes(t2, slip);
+    lost(t3, m, slip)
+}

@@ -1,0 +1,61 @@
+-- `examples::run_groups` is safe and ends.
+-- Assumes nothing.
+use Prim.Native.Nat.{_-_, _≤_}
+use mathlib.Core.Path.{_≡_}
+use lib.ListN.{length}
+use borrow.Author.Needs.{needs}
+use Rattle.examples.proofs.run_groups.Statement.{statement}
+use Rattle.examples.proofs.run_groups.Tie as tie
+
+abbrev Inv-loop : tie.InvT-loop
+Inv-loop seen n one₀ two₀ room₀ m₀ refusals₀ group₀ one two room m refusals group = (group ≤ n) × (length one ≡ length one₀) × (length two ≡ length two₀) × (length room ≡ length room₀) × (length m ≡ length m₀)
+
+abbrev μ-loop : tie.MeasureT-loop
+μ-loop seen n one₀ two₀ room₀ m₀ refusals₀ group₀ one two room m refusals group = n - group
+
+loop-holds : tie.Need-loop-holds Inv-loop μ-loop
+loop-holds c = search needs
+
+run-group-requires : tie.Need-run-group-requires Inv-loop μ-loop
+run-group-requires c κs = search needs
+
+add-group : tie.Need-add-group Inv-loop μ-loop
+add-group c = search needs
+
+loop-less : tie.Need-loop-less Inv-loop μ-loop
+loop-less c = search needs
+
+loop-again : tie.Need-loop-again Inv-loop μ-loop
+loop-again c = search needs
+
+same-length : tie.Need-same-length Inv-loop μ-loop
+same-length c = search needs
+
+same-length-2 : tie.Need-same-length-2 Inv-loop μ-loop
+same-length-2 c = search needs
+
+same-length-3 : tie.Need-same-length-3 Inv-loop μ-loop
+same-length-3 c = search needs
+
+same-length-4 : tie.Need-same-length-4 Inv-loop μ-loop
+same-length-4 c = search needs
+
+returns : tie.Need-returns Inv-loop μ-loop
+returns c = search needs
+
+pub run-groups-spec : {M : Type 1} → statement M
+run-groups-spec =
+    tie.close
+    (tie.spec
+    Inv-loop
+    μ-loop
+    loop-holds
+    run-group-requires
+    add-group
+    loop-less
+    loop-again
+    same-length
+    same-length-2
+    same-length-3
+    same-length-4
+    returns)
