@@ -131,16 +131,9 @@ pub fn check(t: Tally, image: &[u8], room: &mut [u8], slip: u64) -> Tally {
 }
 
 // Rebuild.
-pub fn rebuild(
-    t: Tally,
-    one: &mut [u8],
-    two: &mut [u8],
-    lost: u64,
-    m: &mut [u64],
-    slip: u64,
-) -> Tally {
+pub fn rebuild(t: Tally, one: &mut [u8], two: &mut [u8], lost: u64, slip: u64) -> Tally {
     let a = of_outcome(rebuild::rebuild(one, lost));
-    let b = second_lost::rebuild(two, lost, m, slip);
+    let b = second_lost::rebuild(two, lost, slip);
     noted(t, add(apart(a, b), slices_apart(one, two)), a)
 }
 
@@ -149,7 +142,7 @@ fn scratches_apart(s: &[u8; 600], t: &[u8; 600]) -> usize {
     slices_apart(s, t)
 }
 
-// Restore one strip into scratch of a length up to 600.
+// Restore one strip into scratch of a length up to 600; a longer one counts as a difference.
 pub fn restore(
     t: Tally,
     image: &[u8],
@@ -158,16 +151,15 @@ pub fn restore(
     row: usize,
     length: usize,
     room: &mut [u8],
-    m: &mut [u64],
     slip: u64,
 ) -> Tally {
     let mut one = [7u8; 600];
     let mut two = [7u8; 600];
     if length > 600 {
-        return t;
+        return noted(t, 1, 0);
     }
     let a = of_outcome(rebuild::restore(image, lost, column, row, &mut one[0..length]));
-    let b = second_lost::restore(image, lost, column, row, &mut two[0..length], room, m, slip);
+    let b = second_lost::restore(image, lost, column, row, &mut two[0..length], room, slip);
     noted(t, add(apart(a, b), scratches_apart(&one, &two)), a)
 }
 

@@ -187,19 +187,19 @@ fn writes(t: Tally, slip: u64) -> Tally {
 }
 
 // A lost column's bytes are not read.
-fn lost(t: Tally, m: &mut [u64], slip: u64) -> Tally {
+fn lost(t: Tally, slip: u64) -> Tally {
     let mut one = spoiled_example();
     let mut two = spoiled_example();
     let a = of_outcome(rebuild::rebuild(&mut one, 3));
-    let b = second_lost::rebuild(&mut two, 3, m, slip);
+    let b = second_lost::rebuild(&mut two, 3, slip);
     let t1 = due(t, a, b, 0);
     image_due(t1, &one, &two, &example())
 }
 
 // The slips: the calls that each would spoil.
-pub fn slips(t: Tally, m: &mut [u64], slip: u64) -> Tally {
+pub fn slips(t: Tally, slip: u64) -> Tally {
     let t1 = zeroed(t, slip);
     let t2 = exponents(t1, slip);
     let t3 = writes(t2, slip);
-    lost(t3, m, slip)
+    lost(t3, slip)
 }

@@ -53,32 +53,18 @@ fn cases_of(group: usize) -> usize {
 }
 
 // A group of drawn cases; the refusals seen are joined with those seen before.
-fn run_group(
-    group: usize,
-    seen: u64,
-    one: &mut [u8],
-    two: &mut [u8],
-    room: &mut [u8],
-    m: &mut [u64],
-) -> u64 {
-    let t = trials::run(group, cases_of(group), 0, one, two, room, m);
+fn run_group(group: usize, seen: u64, one: &mut [u8], two: &mut [u8], room: &mut [u8]) -> u64 {
+    let t = trials::run(group, cases_of(group), 0, one, two, room);
     say_group(group);
     tell(t);
     t.refusals | seen
 }
 
 // All groups of drawn cases.
-fn run_groups(
-    seen: u64,
-    n: usize,
-    one: &mut [u8],
-    two: &mut [u8],
-    room: &mut [u8],
-    m: &mut [u64],
-) -> u64 {
+fn run_groups(seen: u64, n: usize, one: &mut [u8], two: &mut [u8], room: &mut [u8]) -> u64 {
     let mut refusals = seen;
     for group in 0..n {
-        refusals = run_group(group, refusals, one, two, room, m);
+        refusals = run_group(group, refusals, one, two, room);
     }
     refusals
 }
@@ -112,20 +98,19 @@ fn drawn_differences(
     one: &mut [u8],
     two: &mut [u8],
     room: &mut [u8],
-    m: &mut [u64],
 ) -> usize {
     let mut found: usize = 0;
     for group in 0..n {
-        let t = trials::run(group, 68, slip, one, two, room, m);
+        let t = trials::run(group, 68, slip, one, two, room);
         found = add(found, t.differences);
     }
     found
 }
 
 // Plants a slip in the second implementation; the document's examples and drawn cases have to find it.
-fn plant(slip: u64, one: &mut [u8], two: &mut [u8], room: &mut [u8], m: &mut [u64]) {
-    let documented = documented::slips(comparing::nothing(), m, slip);
-    let drawn = drawn_differences(slip, 6, one, two, room, m);
+fn plant(slip: u64, one: &mut [u8], two: &mut [u8], room: &mut [u8]) {
+    let documented = documented::slips(comparing::nothing(), slip);
+    let drawn = drawn_differences(slip, 6, one, two, room);
     say_slip(slip);
     if documented.differences == 0 {
         say(b": NOT FOUND by the document's examples\n");
@@ -137,25 +122,25 @@ fn plant(slip: u64, one: &mut [u8], two: &mut [u8], room: &mut [u8], m: &mut [u6
 }
 
 // The self-test: the first n slips, one after the other.
-fn self_test(n: u64, one: &mut [u8], two: &mut [u8], room: &mut [u8], m: &mut [u64]) {
+fn self_test(n: u64, one: &mut [u8], two: &mut [u8], room: &mut [u8]) {
     for slip in 0..n {
-        plant(std::num::wrapping_add_u64(slip, 1), one, two, room, m);
+        plant(std::num::wrapping_add_u64(slip, 1), one, two, room);
     }
 }
 
 // The document's examples, all groups and the self-test, in lent room.
-fn run(one: &mut [u8], two: &mut [u8], room: &mut [u8], m: &mut [u64]) {
+fn run(one: &mut [u8], two: &mut [u8], room: &mut [u8]) {
     let limits = documented::limits(comparing::nothing());
     say(b"limits");
     tell(limits);
-    let slips = documented::slips(comparing::nothing(), m, 0);
+    let slips = documented::slips(comparing::nothing(), 0);
     say(b"slips");
     tell(slips);
     tell_refusals(
-        run_groups(limits.refusals | slips.refusals, 9, one, two, room, m),
+        run_groups(limits.refusals | slips.refusals, 9, one, two, room),
         17,
     );
-    self_test(5, one, two, room, m);
+    self_test(5, one, two, room);
 }
 
 // Makes a file.
@@ -184,8 +169,7 @@ fn main() {
     let mut one = [0u8; 131072];
     let mut two = [0u8; 131072];
     let mut room = [0u8; 131072];
-    let mut m = [0u64; 52200];
-    run(&mut one, &mut two, &mut room, &mut m);
+    run(&mut one, &mut two, &mut room);
     let long = [0u8; 65537];
     reports(b"right", &documented::example());
     reports(b"spoiled", &documented::spoiled_example());

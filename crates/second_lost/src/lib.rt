@@ -75,13 +75,6 @@ fn let_stand(m: &mut [u64], width: usize, f: usize, e: usize, asked: bool) {
     }
 }
 
-// Empties the square.
-fn empty(m: &mut [u64], n: usize) {
-    for at in 0..n {
-        put_word(m, at, 0);
-    }
-}
-
 // Puts unknown e into the equations, named by a word, of n from a first one on.
 fn let_stand_where(m: &mut [u64], width: usize, named: u64, first: usize, e: usize, n: usize) {
     for t in 0..n {
@@ -200,20 +193,20 @@ fn eliminate(m: &mut [u64], width: usize, image: &mut [u8], q: Shape, lost: u64,
     }
 }
 
-// Rebuilds the lost columns of an accepted image.
-fn rebuild_lost(image: &mut [u8], q: Shape, lost: u64, m: &mut [u64]) {
+// Rebuilds the lost columns of an accepted image: at most 30 data columns of 60 rows, so 1,800 equations of 29 words.
+fn rebuild_lost(image: &mut [u8], q: Shape, lost: u64) {
     let columns = ones(lost_data(q, lost));
     let size = times(columns, rows(q));
     let width = over(add(size, 63), 64);
+    let mut m = [0u64; 52200];
     free_parities(image, q, lost, columns);
-    empty(m, times(size, width));
-    set_unknowns(m, width, q, lost, size);
-    eliminate(m, width, image, q, lost, size);
+    set_unknowns(&mut m, width, q, lost, size);
+    eliminate(&mut m, width, image, q, lost, size);
     set_parity(image, q, lost, q.r);
 }
 
-// Rebuild, with lent words to work in: 52,200 are enough for every image.
-pub fn rebuild(image: &mut [u8], lost: u64, m: &mut [u64], slip: u64) -> u64 {
+// Rebuild.
+pub fn rebuild(image: &mut [u8], lost: u64, slip: u64) -> u64 {
     let q = read(image, slip);
     if q.refusal != 0 {
         return q.refusal;
@@ -224,7 +217,7 @@ pub fn rebuild(image: &mut [u8], lost: u64, m: &mut [u64], slip: u64) -> u64 {
     if ones(lost) > q.r {
         return Refusal::number(Refusal::Many);
     }
-    rebuild_lost(image, q, lost, m);
+    rebuild_lost(image, q, lost);
     0
 }
 
@@ -249,7 +242,7 @@ fn asked(image: &[u8], lost: u64, column: usize, row: usize, room: usize, slip: 
     q
 }
 
-// Restore one strip, by a copy of the image in lent room and lent words to work in.
+// Restore one strip, by a copy of the image in lent room.
 pub fn restore(
     image: &[u8],
     lost: u64,
@@ -257,13 +250,12 @@ pub fn restore(
     row: usize,
     scratch: &mut [u8],
     room: &mut [u8],
-    m: &mut [u64],
     slip: u64,
 ) -> u64 {
     let q = asked(image, lost, column, row, scratch.len(), slip);
     if q.refusal == 0 && bit(lost, column) {
         copy(room, 0, image, 0, image.len());
-        rebuild_lost(room, q, lost, m);
+        rebuild_lost(room, q, lost);
         copy(scratch, 0, room, strip_at(q, column, row), q.b);
     }
     q.refusal

@@ -1,9 +1,7 @@
 // Cases that go through the library and through the second implementation, a group of them at a time.
 use comparing::Tally;
-use comparing::answers_apart;
 use comparing::counted;
 use comparing::noted;
-use comparing::of_written;
 use comparing::slices_apart;
 use drawing::DAMAGED;
 use drawing::HISTORIES;
@@ -16,16 +14,13 @@ use drawing::damaged_length;
 use drawing::fill;
 use drawing::length_of;
 use drawing::lost_of;
-use drawing::note_of;
 use drawing::pattern_of;
 use drawing::prime_of;
 use drawing::seldom;
 use drawing::shape_of;
 use drawing::size_of;
 use drawing::small_shape;
-use drawing::start_of;
 use drawing::word_of;
-use second::Answer;
 use second::Shape;
 use second::column_at;
 use second::column_size;
@@ -34,34 +29,12 @@ use second::rows;
 use second::strip_at;
 use total::add;
 use total::bit;
-use total::copy;
 use total::less;
 use total::ones;
-use total::over;
 use total::part;
-use total::put_word;
 use total::put16;
-use total::put32;
 use total::rest;
 use total::times;
-use total::word;
-
-// How many writes a history has.
-const WRITES: usize = 12;
-
-// Makes both images from drawn data.
-fn make_drawn(
-    t: Tally,
-    q: Shape,
-    c: usize,
-    one: &mut [u8],
-    two: &mut [u8],
-    room: &mut [u8],
-) -> Tally {
-    let n = times(q.k, column_size(q));
-    fill(room, 0, n, c);
-    comparing::make(t, q, part(room, 0, n), one, two)
-}
 
 // Puts drawn bytes into a drawn parity strip.
 fn spoil_parity(image: &mut [u8], q: Shape, c: usize) {
@@ -78,7 +51,7 @@ fn try_right(
     two: &mut [u8],
     room: &mut [u8],
 ) -> Tally {
-    let made = make_drawn(t, q, c, one, two, room);
+    let made = histories::make_drawn(t, q, c, one, two, room);
     comparing::check(made, one, room, q.slip)
 }
 
@@ -124,144 +97,6 @@ fn try_unmade(
     comparing::make(t, q, part(room, 0, n), one, two)
 }
 
-// Sets the revisions of n columns to those of the start.
-fn start(image: &mut [u8], c: usize, n: usize) {
-    for i in 0..n {
-        put32(image, add(12, times(4, i)), start_of(c, i));
-    }
-}
-
-// Keeps the answer to write w.
-fn keep(m: &mut [u64], w: usize, a: Answer) {
-    put_word(m, times(3, w), a.refusal);
-    put_word(m, add(times(3, w), 1), a.first);
-    put_word(m, add(times(3, w), 2), a.second);
-}
-
-// The answer kept of write w.
-fn kept(m: &[u64], w: usize) -> Answer {
-    Answer {
-        refusal: word(m, times(3, w)),
-        first: word(m, add(times(3, w), 1)),
-        second: word(m, add(times(3, w), 2)),
-    }
-}
-
-// Write w of a case, on both images; the answer is kept.
-fn try_write(
-    t: Tally,
-    q: Shape,
-    c: usize,
-    w: usize,
-    one: &mut [u8],
-    two: &mut [u8],
-    m: &mut [u64],
-) -> Tally {
-    let note = note_of(q, c, w);
-    let mut buffer = [0u8; 520];
-    fill(&mut buffer, 0, note.width, add(c, times(w, 1009)));
-    let strip = part(&buffer, 0, note.width);
-    let a = of_written(write::write(one, note.column, note.row, note.base, strip));
-    let b = second::write(two, note.column, note.row, note.base, strip, q.slip);
-    keep(m, w, a);
-    noted(
-        t,
-        add(answers_apart(a, b), slices_apart(one, two)),
-        a.refusal,
-    )
-}
-
-// All writes of a case, in the order of their numbers.
-fn try_writes(
-    t: Tally,
-    q: Shape,
-    c: usize,
-    one: &mut [u8],
-    two: &mut [u8],
-    m: &mut [u64],
-    n: usize,
-) -> Tally {
-    let mut seen = t;
-    for w in 0..n {
-        seen = try_write(seen, q, c, w, one, two, m);
-    }
-    seen
-}
-
-// Step s of the other arrangement, column by column: the write, if it is one to that column, gets the answer that was kept.
-fn try_again(t: Tally, q: Shape, c: usize, s: usize, image: &mut [u8], m: &[u64]) -> Tally {
-    let w = rest(s, WRITES);
-    let note = note_of(q, c, w);
-    if note.column != over(s, WRITES) {
-        return t;
-    }
-    let mut buffer = [0u8; 520];
-    fill(&mut buffer, 0, note.width, add(c, times(w, 1009)));
-    let a = of_written(write::write(
-        image,
-        note.column,
-        note.row,
-        note.base,
-        part(&buffer, 0, note.width),
-    ));
-    noted(t, answers_apart(a, kept(m, w)), a.refusal)
-}
-
-// All writes of a case, column by column.
-fn try_all_again(t: Tally, q: Shape, c: usize, image: &mut [u8], m: &[u64], n: usize) -> Tally {
-    let mut seen = t;
-    for s in 0..n {
-        seen = try_again(seen, q, c, s, image, m);
-    }
-    seen
-}
-
-// Makes both images with the revisions of the start.
-fn make_started(
-    t: Tally,
-    q: Shape,
-    c: usize,
-    one: &mut [u8],
-    two: &mut [u8],
-    room: &mut [u8],
-) -> Tally {
-    let made = make_drawn(t, q, c, one, two, room);
-    start(one, c, q.k);
-    start(two, c, q.k);
-    made
-}
-
-// All writes of a case in two arrangements: answers and last images are equal.
-fn try_arrangements(
-    t: Tally,
-    q: Shape,
-    c: usize,
-    one: &mut [u8],
-    two: &mut [u8],
-    room: &mut [u8],
-    m: &mut [u64],
-) -> Tally {
-    copy(room, 0, one, 0, one.len());
-    let once = try_writes(t, q, c, one, two, m, WRITES);
-    let twice = try_all_again(once, q, c, room, m, times(add(q.k, 1), WRITES));
-    noted(twice, slices_apart(one, room), 0)
-}
-
-// A history of writes, and a check at its end.
-fn try_history(
-    t: Tally,
-    q: Shape,
-    c: usize,
-    one: &mut [u8],
-    two: &mut [u8],
-    room: &mut [u8],
-    m: &mut [u64],
-) -> Tally {
-    let made = make_started(t, q, c, one, two, room);
-    let written = try_arrangements(made, q, c, one, two, room, m);
-    comparing::check(written, one, room, q.slip)
-}
-
 // Puts drawn bytes into column n where a pattern has it.
 fn spoil_column(image: &mut [u8], q: Shape, lost: u64, n: usize, c: usize) {
     if bit(lost, n) {
@@ -277,15 +112,7 @@ fn spoil_lost(image: &mut [u8], q: Shape, lost: u64, n: usize, c: usize) {
 }
 
 // Restore and show of a drawn strip, mostly sound.
-fn try_strip(
-    t: Tally,
-    q: Shape,
-    c: usize,
-    lost: u64,
-    image: &[u8],
-    room: &mut [u8],
-    m: &mut [u64],
-) -> Tally {
+fn try_strip(t: Tally, q: Shape, c: usize, lost: u64, image: &[u8], room: &mut [u8]) -> Tally {
     let high = if seldom(c, 50, 8) { 1 } else { 0 };
     let low = if seldom(c, 51, 8) { 1 } else { 0 };
     let column = below(c, 52, add(add(q.k, q.r), high));
@@ -295,7 +122,7 @@ fn try_strip(
     } else {
         add(q.b, below(c, 55, 3))
     };
-    let restored = comparing::restore(t, image, lost, column, row, n, room, m, q.slip);
+    let restored = comparing::restore(t, image, lost, column, row, n, room, q.slip);
     comparing::show(restored, image, lost, column, row, part(room, 0, n))
 }
 
@@ -328,7 +155,7 @@ fn make_spoiled(
     two: &mut [u8],
     room: &mut [u8],
 ) -> Tally {
-    let made = make_drawn(t, q, c, one, two, room);
+    let made = histories::make_drawn(t, q, c, one, two, room);
     spoil_lost(one, q, lost, add(q.k, q.r), c);
     spoil_lost(two, q, lost, add(q.k, q.r), c);
     made
@@ -343,9 +170,8 @@ fn try_rebuild(
     one: &mut [u8],
     two: &mut [u8],
     room: &mut [u8],
-    m: &mut [u64],
 ) -> Tally {
-    let rebuilt = comparing::rebuild(t, one, two, lost, m, q.slip);
+    let rebuilt = comparing::rebuild(t, one, two, lost, q.slip);
     try_back(rebuilt, q, c, lost, one, two, room)
 }
 
@@ -358,39 +184,22 @@ fn try_lost(
     one: &mut [u8],
     two: &mut [u8],
     room: &mut [u8],
-    m: &mut [u64],
 ) -> Tally {
     let made = make_spoiled(t, q, c, lost, one, two, room);
-    let shown = try_strip(made, q, c, lost, one, room, m);
-    try_rebuild(shown, q, c, lost, one, two, room, m)
+    let shown = try_strip(made, q, c, lost, one, room);
+    try_rebuild(shown, q, c, lost, one, two, room)
 }
 
 // Check, restore and show.
-fn try_looks(
-    t: Tally,
-    q: Shape,
-    c: usize,
-    lost: u64,
-    image: &[u8],
-    room: &mut [u8],
-    m: &mut [u64],
-) -> Tally {
+fn try_looks(t: Tally, q: Shape, c: usize, lost: u64, image: &[u8], room: &mut [u8]) -> Tally {
     let checked = comparing::check(t, image, room, q.slip);
-    try_strip(checked, q, c, lost, image, room, m)
+    try_strip(checked, q, c, lost, image, room)
 }
 
 // Write, rebuild and refill.
-fn try_changes(
-    t: Tally,
-    q: Shape,
-    c: usize,
-    lost: u64,
-    one: &mut [u8],
-    two: &mut [u8],
-    m: &mut [u64],
-) -> Tally {
-    let written = try_write(t, q, c, 0, one, two, m);
-    let rebuilt = comparing::rebuild(written, one, two, lost, m, q.slip);
+fn try_changes(t: Tally, q: Shape, c: usize, lost: u64, one: &mut [u8], two: &mut [u8]) -> Tally {
+    let written = histories::try_first(t, q, c, one, two);
+    let rebuilt = comparing::rebuild(written, one, two, lost, q.slip);
     comparing::refill(rebuilt, one, two, q.slip)
 }
 
@@ -402,11 +211,10 @@ fn try_calls(
     one: &mut [u8],
     two: &mut [u8],
     room: &mut [u8],
-    m: &mut [u64],
 ) -> Tally {
     let lost = pattern_of(add(q.k, q.r), c, below(c, 60, add(q.r, 2)));
-    let looked = try_looks(t, q, c, lost, one, room, m);
-    try_changes(looked, q, c, lost, one, two, m)
+    let looked = try_looks(t, q, c, lost, one, room);
+    try_changes(looked, q, c, lost, one, two)
 }
 
 // Make, check and refill, then every call.
@@ -417,10 +225,9 @@ fn try_strips(
     one: &mut [u8],
     two: &mut [u8],
     room: &mut [u8],
-    m: &mut [u64],
 ) -> Tally {
     let made = try_made(t, q, c, one, two, room);
-    try_calls(made, q, c, one, two, room, m)
+    try_calls(made, q, c, one, two, room)
 }
 
 // What a group tries on images of its shapes.
@@ -432,24 +239,14 @@ fn try_images(
     one: &mut [u8],
     two: &mut [u8],
     room: &mut [u8],
-    m: &mut [u64],
 ) -> Tally {
     match group {
         MADE => try_made(t, q, c, one, two, room),
         UNMADE => try_unmade(t, q, c, one, two, room),
-        DAMAGED => try_calls(t, q, c, one, two, room, m),
-        HISTORIES => try_history(t, q, c, one, two, room, m),
-        STRIPS => try_strips(t, q, c, one, two, room, m),
-        _ => try_lost(
-            t,
-            q,
-            c,
-            lost_of(q, c, size_of(group, q, c)),
-            one,
-            two,
-            room,
-            m,
-        ),
+        DAMAGED => try_calls(t, q, c, one, two, room),
+        HISTORIES => histories::try_history(t, q, c, one, two, room),
+        STRIPS => try_strips(t, q, c, one, two, room),
+        _ => try_lost(t, q, c, lost_of(q, c, size_of(group, q, c)), one, two, room),
     }
 }
 
@@ -463,7 +260,6 @@ fn try_within(
     one: &mut [u8],
     two: &mut [u8],
     room: &mut [u8],
-    m: &mut [u64],
 ) -> Tally {
     if n <= one.len() {
         if n <= two.len() {
@@ -476,7 +272,6 @@ fn try_within(
                     &mut one[0..n],
                     &mut two[0..n],
                     &mut room[0..n],
-                    m,
                 );
             }
         }
@@ -515,12 +310,11 @@ fn try_damaged(
     one: &mut [u8],
     two: &mut [u8],
     room: &mut [u8],
-    m: &mut [u64],
 ) -> Tally {
     let q = small_shape(c, slip);
-    let made = try_within(MADE, t, q, c, length(q), one, two, room, m);
+    let made = try_within(MADE, t, q, c, length(q), one, two, room);
     damage_both(one, two, q, c);
-    try_within(DAMAGED, made, q, c, damaged_length(q, c), one, two, room, m)
+    try_within(DAMAGED, made, q, c, damaged_length(q, c), one, two, room)
 }
 
 // Product and division of drawn words.
@@ -550,14 +344,13 @@ fn try_case(
     one: &mut [u8],
     two: &mut [u8],
     room: &mut [u8],
-    m: &mut [u64],
 ) -> Tally {
     match group {
         RING => try_ring(t, c, slip),
-        DAMAGED => try_damaged(t, c, slip, one, two, room, m),
+        DAMAGED => try_damaged(t, c, slip, one, two, room),
         _ => {
             let q = shape_of(group, c, slip);
-            try_within(group, t, q, c, length_of(group, q, c), one, two, room, m)
+            try_within(group, t, q, c, length_of(group, q, c), one, two, room)
         }
     }
 }
@@ -570,11 +363,10 @@ pub fn run(
     one: &mut [u8],
     two: &mut [u8],
     room: &mut [u8],
-    m: &mut [u64],
 ) -> Tally {
     let mut t = comparing::nothing();
     for c in 0..n {
-        t = try_case(group, counted(t), c, slip, one, two, room, m);
+        t = try_case(group, counted(t), c, slip, one, two, room);
     }
     t
 }

@@ -8,10 +8,10 @@ use Rattle.examples.proofs.drawn_differences.Statement.{statement}
 use Rattle.examples.proofs.drawn_differences.Tie as tie
 
 abbrev Inv-loop : tie.InvT-loop
-Inv-loop slip n one₀ two₀ room₀ m₀ found₀ group₀ one two room m found group = (group ≤ n) × (length one ≡ length one₀) × (length two ≡ length two₀) × (length room ≡ length room₀) × (length m ≡ length m₀)
+Inv-loop slip n one₀ two₀ room₀ found₀ group₀ one two room found group = (group ≤ n) × (length one ≡ length one₀) × (length two ≡ length two₀) × (length room ≡ length room₀)
 
 abbrev μ-loop : tie.MeasureT-loop
-μ-loop slip n one₀ two₀ room₀ m₀ found₀ group₀ one two room m found group = n - group
+μ-loop slip n one₀ two₀ room₀ found₀ group₀ one two room found group = n - group
 
 loop-holds : tie.Need-loop-holds Inv-loop μ-loop
 loop-holds c = search needs
@@ -40,9 +40,6 @@ same-length-2 c = search needs
 same-length-3 : tie.Need-same-length-3 Inv-loop μ-loop
 same-length-3 c = search needs
 
-same-length-4 : tie.Need-same-length-4 Inv-loop μ-loop
-same-length-4 c = search needs
-
 returns : tie.Need-returns Inv-loop μ-loop
 returns c = search needs
 
@@ -61,5 +58,4 @@ drawn-differences-spec =
     same-length
     same-length-2
     same-length-3
-    same-length-4
     returns)

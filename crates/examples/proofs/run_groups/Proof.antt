@@ -8,10 +8,10 @@ use Rattle.examples.proofs.run_groups.Statement.{statement}
 use Rattle.examples.proofs.run_groups.Tie as tie
 
 abbrev Inv-loop : tie.InvT-loop
-Inv-loop seen n one₀ two₀ room₀ m₀ refusals₀ group₀ one two room m refusals group = (group ≤ n) × (length one ≡ length one₀) × (length two ≡ length two₀) × (length room ≡ length room₀) × (length m ≡ length m₀)
+Inv-loop seen n one₀ two₀ room₀ refusals₀ group₀ one two room refusals group = (group ≤ n) × (length one ≡ length one₀) × (length two ≡ length two₀) × (length room ≡ length room₀)
 
 abbrev μ-loop : tie.MeasureT-loop
-μ-loop seen n one₀ two₀ room₀ m₀ refusals₀ group₀ one two room m refusals group = n - group
+μ-loop seen n one₀ two₀ room₀ refusals₀ group₀ one two room refusals group = n - group
 
 loop-holds : tie.Need-loop-holds Inv-loop μ-loop
 loop-holds c = search needs
@@ -37,9 +37,6 @@ same-length-2 c = search needs
 same-length-3 : tie.Need-same-length-3 Inv-loop μ-loop
 same-length-3 c = search needs
 
-same-length-4 : tie.Need-same-length-4 Inv-loop μ-loop
-same-length-4 c = search needs
-
 returns : tie.Need-returns Inv-loop μ-loop
 returns c = search needs
 
@@ -57,5 +54,4 @@ run-groups-spec =
     same-length
     same-length-2
     same-length-3
-    same-length-4
     returns)

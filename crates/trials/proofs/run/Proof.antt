@@ -8,10 +8,10 @@ use Rattle.trials.proofs.run.Statement.{statement}
 use Rattle.trials.proofs.run.Tie as tie
 
 abbrev Inv-loop : tie.InvT-loop
-Inv-loop group n slip one₀ two₀ room₀ m₀ t₀ c₀ one two room m t c = (c ≤ n) × (length one ≡ length one₀) × (length two ≡ length two₀) × (length room ≡ length room₀) × (length m ≡ length m₀)
+Inv-loop group n slip one₀ two₀ room₀ t₀ c₀ one two room t c = (c ≤ n) × (length one ≡ length one₀) × (length two ≡ length two₀) × (length room ≡ length room₀)
 
 abbrev μ-loop : tie.MeasureT-loop
-μ-loop group n slip one₀ two₀ room₀ m₀ t₀ c₀ one two room m t c = n - c
+μ-loop group n slip one₀ two₀ room₀ t₀ c₀ one two room t c = n - c
 
 nothing-requires : tie.Need-nothing-requires Inv-loop μ-loop
 nothing-requires c κs = search needs
@@ -43,9 +43,6 @@ same-length-2 c = search needs
 same-length-3 : tie.Need-same-length-3 Inv-loop μ-loop
 same-length-3 c = search needs
 
-same-length-4 : tie.Need-same-length-4 Inv-loop μ-loop
-same-length-4 c = search needs
-
 returns : tie.Need-returns Inv-loop μ-loop
 returns c = search needs
 
@@ -65,5 +62,4 @@ run-spec =
     same-length
     same-length-2
     same-length-3
-    same-length-4
     returns)

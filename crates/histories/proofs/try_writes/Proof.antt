@@ -1,17 +1,17 @@
--- `trials::try_writes` is safe and ends.
+-- `histories::try_writes` is safe and ends.
 -- Assumes nothing.
 use Prim.Native.Nat.{_-_, _≤_}
 use mathlib.Core.Path.{_≡_}
 use lib.ListN.{length}
 use borrow.Author.Needs.{needs}
-use Rattle.trials.proofs.try_writes.Statement.{statement}
-use Rattle.trials.proofs.try_writes.Tie as tie
+use Rattle.histories.proofs.try_writes.Statement.{statement}
+use Rattle.histories.proofs.try_writes.Tie as tie
 
 abbrev Inv-loop : tie.InvT-loop
-Inv-loop q c one₀ two₀ m₀ n seen₀ w₀ one two m seen w = (w ≤ n) × (length one ≡ length one₀) × (length two ≡ length two₀) × (length m ≡ length m₀)
+Inv-loop q c one₀ two₀ answers₀ n seen₀ w₀ one two answers seen w = (w ≤ n) × (length one ≡ length one₀) × (length two ≡ length two₀)
 
 abbrev μ-loop : tie.MeasureT-loop
-μ-loop q c one₀ two₀ m₀ n seen₀ w₀ one two m seen w = n - w
+μ-loop q c one₀ two₀ answers₀ n seen₀ w₀ one two answers seen w = n - w
 
 loop-holds : tie.Need-loop-holds Inv-loop μ-loop
 loop-holds c = search needs
@@ -34,9 +34,6 @@ same-length c = search needs
 same-length-2 : tie.Need-same-length-2 Inv-loop μ-loop
 same-length-2 c = search needs
 
-same-length-3 : tie.Need-same-length-3 Inv-loop μ-loop
-same-length-3 c = search needs
-
 returns : tie.Need-returns Inv-loop μ-loop
 returns c = search needs
 
@@ -53,5 +50,4 @@ try-writes-spec =
     loop-again
     same-length
     same-length-2
-    same-length-3
     returns)

@@ -1,11 +1,11 @@
--- `trials::start` is safe and ends.
+-- `histories::start` is safe and ends.
 -- Assumes nothing.
 use Prim.Native.Nat.{_-_, _≤_}
 use mathlib.Core.Path.{_≡_}
 use lib.ListN.{length}
 use borrow.Author.Needs.{needs}
-use Rattle.trials.proofs.start.Statement.{statement}
-use Rattle.trials.proofs.start.Tie as tie
+use Rattle.histories.proofs.start.Statement.{statement}
+use Rattle.histories.proofs.start.Tie as tie
 
 abbrev Inv-loop : tie.InvT-loop
 Inv-loop image₀ c n i₀ image i = (i ≤ n) × (length image ≡ length image₀)
