@@ -14,8 +14,8 @@ use Rattle.stripe.specs.declared.Params.{Params}
 use Rattle.stripe.specs.declared.Reading.{Reading}
 use Rattle.stripe.specs.declared.Reading.the-variants.{Stripe, Refused as Unread}
 use Rattle.stripe.specs.Reading.{reading-number, refusal-given}
-use Rattle.rebuild.specs.Lost.{is-lost}
-use Rattle.rebuild.specs.Answer.{asked, column-strip-at, shown, shown-asked, shown-at, shown-asked-at, show-number}
+use Rattle.pattern.specs.Pattern.{is-lost, asked}
+use Rattle.rebuild.specs.Answer.{column-strip-at, shown, shown-asked, shown-at, shown-asked-at, show-number}
 use Rattle.rebuild.specs.Inner.{Strip-place}
 use Rattle.airsaffron.specs.declared.Answer.{Answer}
 use Rattle.airsaffron.specs.Given.{refused-given, shown-given}

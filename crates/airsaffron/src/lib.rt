@@ -13,7 +13,8 @@ ghost use Rattle.stripe.specs.declared.Reading.the-variants.{Stripe};
 ghost use Rattle.stripe.specs.Reading.{readOf, reading-values};
 ghost use Rattle.parity.specs.Answer.{makeOf, refillOf, checkOf};
 ghost use Rattle.write.specs.Written.{writeOf};
-ghost use Rattle.rebuild.specs.Answer.{rebuildOf, restoreOf, asked, shown-at};
+ghost use Rattle.rebuild.specs.Answer.{rebuildOf, restoreOf, shown-at};
+ghost use Rattle.pattern.specs.Pattern.{asked};
 ghost use Rattle.airsaffron.specs.Given.{refused-given, element-given, outcome-given, checkup-given, written-given, reading-given, shape-left, shown-given};
 
 // The number of the refusal, or 0, and the values; every one that the call does not name is 0.
@@ -208,11 +209,11 @@ pub extern "C" fn airsaffron_show(
 {
     let n = column as usize;
     let t = row as usize;
-    let reading = rebuild::ask(image, lost, n, t, scratch.len());
+    let reading = pattern::ask(image, lost, n, t, scratch.len());
     let Reading::Stripe(q) = reading else {
         return refused(reading.refusal());
     };
-    if rebuild::is_lost(lost, n) {
+    if pattern::is_lost(lost, n) {
         return accepted(2, 0);
     }
     accepted(1, rebuild::strip_at(q, n, t) as u64)

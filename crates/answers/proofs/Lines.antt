@@ -57,10 +57,7 @@ put-nothing s a e = subst (λ (b : Answer). Put s s 0 0 (lineOf b)) (sym e) (rec
 pub put-within : (s t : List ℕ) (x : ℕ) (v : List ℕ) → Put s t 0 x v → x ≤ length t
 put-within s t x v p = omega (arith, p .place, ap length (p .front), length-take x t)
 
--- a refusal and an answer that a test has told
-pub put-told : (s t : List ℕ) (n x : ℕ) (e e′ : Refusal) → e ≡ e′ → Put s t n x (spaced (nameOf e′)) → Put s t n x (spaced (nameOf e))
-put-told s t n x e e′ g p = subst (λ (r : Refusal). Put s t n x (spaced (nameOf r))) (sym g) p
-
+-- an answer that a test has told
 pub line-told : (s t : List ℕ) (x : ℕ) (a a′ : Answer) → a ≡ a′ → Put s t 0 x (lineOf a′) → Put s t 0 x (lineOf a)
 line-told s t x a a′ g p = subst (λ (b : Answer). Put s t 0 x (lineOf b)) (sym g) p
 

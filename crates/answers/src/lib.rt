@@ -48,30 +48,16 @@ fn put_number(line: &mut [u8], n: usize, number: u64) -> usize
     put_digits(line, m, number)
 }
 
-// The same with the name of a refusal.
+// The same with the name of a refusal, which is that word of all names whose number it has.
 fn put_name(line: &mut [u8], n: usize, e: Refusal) -> usize
     requires { ⌜ n + 9 ≤ length (now line) ⌝ }
     ensures { λ x. ⌜ Put (now (line .entry)) (now (line .exit)) n x (spaced (nameOf e)) ⌝ }
     ensures { λ x. ⌜ x ≤ n + 9 ⌝ }
 {
-    match e {
-        Refusal::Cut => put(line, n, b" CUT"),
-        Refusal::Tail => put(line, n, b" TAIL"),
-        Refusal::Count => put(line, n, b" COUNT"),
-        Refusal::Prime => put(line, n, b" PRIME"),
-        Refusal::Shape => put(line, n, b" SHAPE"),
-        Refusal::Strip => put(line, n, b" STRIP"),
-        Refusal::Width => put(line, n, b" WIDTH"),
-        Refusal::Column => put(line, n, b" COLUMN"),
-        Refusal::Row => put(line, n, b" ROW"),
-        Refusal::Stale => put(line, n, b" STALE"),
-        Refusal::Ahead => put(line, n, b" AHEAD"),
-        Refusal::Many => put(line, n, b" MANY"),
-        Refusal::Room => put(line, n, b" ROOM"),
-        Refusal::Long => put(line, n, b" LONG"),
-        Refusal::Exponent => put(line, n, b" EXPONENT"),
-        Refusal::Element => put(line, n, b" ELEMENT"),
-    }
+    let names =
+        b" CUT TAIL COUNT PRIME SHAPE STRIP WIDTH COLUMN ROW STALE AHEAD MANY ROOM LONG EXPONENT ELEMENT";
+    let m = put(line, n, b" ");
+    put(line, m, words::word(names, b' ', e.number() as usize))
 }
 
 // The line of a refusal.

@@ -25,7 +25,7 @@ use Rattle.parity.proofs.Heads.{head-image, head-refilled}
 use Rattle.parity.specs.Answer.{wrong-parities, refillOf, refill-read, checkOf, check-read, make-sound, makeOf, make-checked}
 use Rattle.parity.specs.Inner.{Begun, head, Room}
 use Rattle.parity.specs.Make.{made}
-use Rattle.parity.specs.Parity.{refilled}
+use Rattle.block.specs.Parity.{refilled}
 use Rattle.parity.specs.declared.Checkup.the-variants.{Wrong, Refused as Unchecked}
 use Rattle.parity.specs.declared.Outcome.{Outcome}
 use Rattle.parity.specs.declared.Outcome.the-variants.{Done, Refused}

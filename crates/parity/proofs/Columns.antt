@@ -20,10 +20,10 @@ use Rattle.stripe.specs.Params.{Admitted}
 use Rattle.stripe.specs.Reading.{Image}
 use Rattle.stripe.specs.declared.Params.{Params}
 use Rattle.parity.proofs.Bytes.{below-all}
-use Rattle.parity.proofs.Touching.{due-agree}
+use Rattle.block.proofs.Touching.{due-agree}
 use Rattle.parity.specs.Answer.{parity-right, wrong-parities}
 use Rattle.parity.specs.Inner.{due-column, wrong-bit, wrong-to}
-use Rattle.parity.specs.Parity.{due, due-at}
+use Rattle.block.specs.Parity.{due, due-at}
 
 -- ---- the data that a change of parity leaves
 

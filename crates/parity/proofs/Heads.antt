@@ -17,10 +17,10 @@ use Rattle.stripe.specs.Params.{Admitted}
 use Rattle.stripe.specs.Reading.{Image}
 use Rattle.stripe.specs.declared.Params.{Params}
 use Rattle.parity.proofs.Front.{length-sixteen, length-head}
-use Rattle.parity.proofs.Touching.{due-agree}
+use Rattle.block.proofs.Touching.{due-agree}
 use Rattle.parity.specs.Inner.{opening, head}
 use Rattle.parity.specs.Make.{sixteen, given, made}
-use Rattle.parity.specs.Parity.{due-at, refilled}
+use Rattle.block.specs.Parity.{due-at, refilled}
 
 -- a number that stands in a list is read back
 number-at : (pre post : List ℕ) (v at : ℕ) → length pre ≡ at → v ≤ 65535 → u16 (pre ++ (sixteen v ++ post)) at ≡ v

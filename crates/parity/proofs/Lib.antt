@@ -1,4 +1,3 @@
-pub mod Touching
 pub mod Bytes
 pub mod Columns
 pub mod Front

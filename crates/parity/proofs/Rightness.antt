@@ -33,7 +33,7 @@ use Rattle.parity.proofs.Heads.{head-image, head-refilled, head-data}
 use Rattle.parity.specs.Answer.{parity-right, wrong-parities}
 use Rattle.parity.specs.Inner.{opening, head}
 use Rattle.parity.specs.Make.{sixteen, given, made}
-use Rattle.parity.specs.Parity.{due, due-at, refilled, Right}
+use Rattle.block.specs.Parity.{due, due-at, refilled, Right}
 
 -- ---- refilling
 

@@ -24,7 +24,7 @@ use Rattle.parity.specs.declared.Outcome.{Outcome}
 use Rattle.parity.specs.declared.Outcome.the-variants.{Done, Refused}
 use Rattle.parity.specs.declared.Checkup.{Checkup}
 use Rattle.parity.specs.declared.Checkup.the-variants.{Wrong, Refused as Unchecked}
-use Rattle.parity.specs.Parity.{due, refilled}
+use Rattle.block.specs.Parity.{due, refilled}
 use Rattle.parity.specs.Make.{made}
 
 -- "Order: PRIME, SHAPE, STRIP, WIDTH, ROOM."; "no lent byte changes"

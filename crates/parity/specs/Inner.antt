@@ -14,7 +14,7 @@ use Rattle.stripe.specs.Reading.{Image}
 use Rattle.stripe.specs.declared.Params.{Params}
 use Rattle.parity.specs.Answer.{parity-right}
 use Rattle.parity.specs.Make.{sixteen, section-1, section-2, section-3}
-use Rattle.parity.specs.Parity.{due}
+use Rattle.block.specs.Parity.{due}
 
 -- ---- parity by blocks of lanes: lane x is byte x of each strip
 
@@ -29,7 +29,7 @@ wrong-bit s q j = choose (parity-right s q j) 0 1
 unfoldable pub wrong-to : List ℕ → Params → ℕ → ℕ
 wrong-to s q n = pack n (wrong-bit s q)
 
--- an image, room for p rows of w lanes, and parity j; with a block of lanes from l
+-- an image, room for p rows of w lanes, and parity j
 pub record Column-asked (s acc : List ℕ) (q : Params) (j w : ℕ) : Type 0 where
   pub image : Image s q
   pub column : j < q .r
@@ -38,25 +38,11 @@ pub record Column-asked (s acc : List ℕ) (q : Params) (j w : ℕ) : Type 0 whe
   pub fits : w ≤ q .b
   pub room : q .p * w ≤ length acc
 
-pub record Block-asked (s acc : List ℕ) (q : Params) (j l w : ℕ) : Type 0 where
-  pub image : Image s q
-  pub column : j < q .r
-  pub lanes : w ≤ 128
-  pub within : l + w ≤ q .b
-  pub room : q .p * w ≤ length acc
-
 -- a block of w lanes of b that starts at `a` has the lanes from l on that a block has
 pub record Starts (l w b a : ℕ) : Type 0 where
   pub low : a ≤ l
   pub inside : a + w ≤ b
   pub reach : (x : ℕ) → x < l + w → x < b → x < a + w
-
--- s is now t: in parity j the lanes from lo to hi are due, and no other byte changed
-pub record Block-filled (s t : List ℕ) (q : Params) (j lo hi : ℕ) : Type 0 where
-  pub len : length t ≡ length s
-  pub head : (o : ℕ) → o < parity-from q → getD t o 0 ≡ getD s o 0
-  pub lanes : (u x : ℕ) → u < rows q → lo ≤ x → x < hi → parity-byte t q j u x ≡ due q (data-byte s q) j u x
-  pub rest : (i u x : ℕ) → u < rows q → x < q .b → (i ≡ j → lo ≤ x → x < hi → ⊥) → parity-byte t q i u x ≡ parity-byte s q i u x
 
 -- s is now t: in parity j the lanes below n are due, and no byte of another parity or before parity changed
 pub record Column-filled (s t : List ℕ) (q : Params) (j n : ℕ) : Type 0 where
@@ -70,10 +56,6 @@ pub record Columns-filled (s t : List ℕ) (q : Params) (n : ℕ) : Type 0 where
   pub len : length t ≡ length s
   pub head : (o : ℕ) → o < parity-from q → getD t o 0 ≡ getD s o 0
   pub lanes : (j u x : ℕ) → j < n → u < rows q → x < q .b → parity-byte t q j u x ≡ due q (data-byte s q) j u x
-
--- in parity j the lanes from lo to hi are due
-pub record Lanes-right (s : List ℕ) (q : Params) (j lo hi : ℕ) : Type 0 where
-  pub bytes : (t x : ℕ) → t < rows q → lo ≤ x → x < hi → x < q .b → parity-byte s q j t x ≡ due q (data-byte s q) j t x
 
 -- ---- a new image
 

@@ -7,7 +7,7 @@ use Rattle.laws.specs.Part.{tab}
 use Rattle.laws.specs.Number.{byte}
 use Rattle.stripe.specs.declared.Params.{Params}
 use Rattle.stripe.specs.Layout.{rows, column-length}
-use Rattle.parity.specs.Parity.{due-at}
+use Rattle.block.specs.Parity.{due-at}
 
 -- a number of 16 bits
 abbrev pub sixteen : ℕ → List ℕ

@@ -9,14 +9,12 @@ ghost use lib.Dec.{eqb};
 ghost use lib.ListN.{length};
 ghost use Rattle.laws.specs.Choose.{choose};
 ghost use Rattle.laws.specs.Left.{Leaves};
-ghost use Rattle.laws.specs.Part.{put, tab};
 ghost use Rattle.stripe.specs.Params.{Admitted};
 ghost use Rattle.stripe.specs.Reading.{Image};
-ghost use Rattle.walk.specs.Lanes.{Shows};
-ghost use Rattle.parity.specs.Parity.{refilled};
+ghost use Rattle.block.specs.Parity.{refilled};
 ghost use Rattle.parity.specs.Make.{sixteen, made};
 ghost use Rattle.parity.specs.Answer.{make-sound, makeOf, refillOf, wrong-parities, checkOf};
-ghost use Rattle.parity.specs.Inner.{wrong-bit, Column-asked, Block-asked, Starts, Block-filled, Column-filled, Lanes-right, Written, three, Room, Begun, opening, head};
+ghost use Rattle.parity.specs.Inner.{wrong-bit, Column-asked, Starts, Column-filled, Written, three, Room, Begun, opening, head};
 
 // Done, or the refusal.
 pub enum Outcome {
@@ -28,30 +26,6 @@ pub enum Outcome {
 pub enum Checkup {
     Wrong(u64),
     Refused(Refusal),
-}
-
-// Puts lanes l to l + w of parity j in their place, worked out in `acc`.
-fn refill_block(image: &mut [u8], q: Params, j: usize, l: usize, w: usize, acc: &mut [u8])
-    requires { ⌜ Block-asked (now image) (now acc) q j l w ⌝ }
-    ensures { λ _. ⌜ Block-filled (now (image .entry)) (now (image .exit)) q j l (l + w) ⌝ }
-{
-    let from = q.data_at(0) + l;
-    let d = q.r - j;
-    walk::walk_first(image, from, q.p, q.b, d, w, acc);
-    walk::columns(image, from, q.p, q.k, q.b, d, w, acc);
-    walk::finish(image, q.parity_at(j) + l, q.p, q.b, j, w, acc);
-}
-
-// 0 where bad is 0 and lanes l to l + w of parity j are right; worked out in `acc`.
-fn check_block(bad: u8, image: &[u8], q: Params, j: usize, l: usize, w: usize, acc: &mut [u8]) -> u8
-    requires { ⌜ Block-asked (now image) (now acc) q j l w ⌝ }
-    ensures { λ r. ⌜ Shows bad r (Lanes-right (now (image .entry)) q j l (l + w)) ⌝ }
-{
-    let from = q.data_at(0) + l;
-    let d = q.r - j;
-    walk::walk_first(image, from, q.p, q.b, d, w, acc);
-    walk::columns(image, from, q.p, q.k, q.b, d, w, acc);
-    walk::compare(bad, image, q.parity_at(j) + l, q.p, q.b, j, w, acc)
 }
 
 // Where the block starts that has lane l: at l, or lower where a block from l would end past the strip.
@@ -72,7 +46,7 @@ fn refill_column(image: &mut [u8], q: Params, j: usize, w: usize, acc: &mut [u8]
 {
     let mut l: usize = 0;
     while l < q.b {
-        refill_block(image, q, j, block_from(l, w, q.b), w, acc);
+        block::refill_block(image, q, j, block_from(l, w, q.b), w, acc);
         l += w;
     }
 }
@@ -124,7 +98,7 @@ fn refill_thin(image: &mut [u8], q: Params)
     let mut acc = [0u8; 976];
     let mut j: usize = 0;
     while j < q.r {
-        refill_block(image, q, j, 0, q.b, &mut acc);
+        block::refill_block(image, q, j, 0, q.b, &mut acc);
         j += 1;
     }
 }
@@ -167,7 +141,7 @@ fn check_column(image: &[u8], q: Params, j: usize, w: usize, acc: &mut [u8]) -> 
     let mut bad: u8 = 0;
     let mut l: usize = 0;
     while l < q.b {
-        bad = check_block(bad, image, q, j, block_from(l, w, q.b), w, acc);
+        bad = block::check_block(bad, image, q, j, block_from(l, w, q.b), w, acc);
         l += w;
     }
     flag(bad)
@@ -227,7 +201,7 @@ fn check_thin(image: &[u8], q: Params) -> u64
     let mut word = 0;
     let mut j: usize = 0;
     while j < q.r {
-        word += flag(check_block(0, image, q, j, 0, q.b, &mut acc)) << j;
+        word += flag(block::check_block(0, image, q, j, 0, q.b, &mut acc)) << j;
         j += 1;
     }
     word

@@ -20,8 +20,8 @@ use Rattle.laws.specs.Xor.{_⊕_}
 use Rattle.stripe.specs.Layout.{rows, parity-byte, data-byte}
 use Rattle.stripe.specs.Reading.{Image}
 use Rattle.stripe.specs.declared.Params.{Params}
-use Rattle.parity.specs.Parity.{Right, due}
-use Rattle.parity.specs.Touches.{touches, touch-word, count}
+use Rattle.block.specs.Parity.{Right, due}
+use Rattle.block.specs.Touches.{touches, touch-word, count}
 use Rattle.write.proofs.Accepted.{written-parity}
 use Rattle.write.specs.Written.{written, difference}
 use Rattle.store.proofs.Lists.{shuffled-refl}

@@ -18,16 +18,17 @@ use Rattle.stripe.proofs.Frame.{image-same, image-read}
 use Rattle.stripe.specs.Layout.{rows, data-byte, parity-byte}
 use Rattle.stripe.specs.Reading.{Image}
 use Rattle.stripe.specs.declared.Params.{Params}
-use Rattle.parity.specs.Parity.{due, Right}
+use Rattle.block.proofs.Touching.{due-agree}
+use Rattle.block.specs.Parity.{due, Right}
 use Rattle.parity.specs.declared.Outcome.the-variants.{Done, Refused}
 use Rattle.rebuild.proofs.Cells.{is-rebuilt, rebuilt-length, rebuilt-front, rebuilt-count}
-use Rattle.rebuild.proofs.Count.{length-consulted, rising-at, consulted-rising, weight-none, weight-mark, is-few}
+use Rattle.pattern.proofs.Count.{length-consulted, rising-at, consulted-rising, weight-none, weight-mark, is-few}
 use Rattle.rebuild.proofs.Independent.{rebuilt-agrees, agrees-image}
 use Rattle.promises.proofs.Solved.{whole-only}
-use Rattle.rebuild.proofs.Whole.{due-ext}
 use Rattle.rebuild.specs.Agrees.{AgreesOutside}
-use Rattle.rebuild.specs.Answer.{few-lost, pattern-fits, rebuildOf, rebuild-read}
-use Rattle.rebuild.specs.Lost.{is-lost, consulted, whole-data, whole-parity, rebuilt}
+use Rattle.rebuild.specs.Answer.{rebuildOf, rebuild-read}
+use Rattle.pattern.specs.Pattern.{few-lost, pattern-fits, is-lost, consulted}
+use Rattle.rebuild.specs.Lost.{whole-data, whole-parity, rebuilt}
 
 -- ---- a right image is its own rebuilding
 
@@ -45,7 +46,7 @@ module _ (s : List ℕ) (q : Params) (m : ℕ) (i : Image s q) (r : Right s q) (
   whole-parity-right j t x h k l = go (is-lost m (q .k + j))
     where
       go : (b : Bool) → choose b (due q (whole-data s q m) j t x) (parity-byte s q j t x) ≡ parity-byte s q j t x
-      go true = due-ext q (whole-data s q m) (data-byte s q) j t x (λ c u g n. whole-data-right c u x g n l) ∙ sym (r .parity-due j t x h k l)
+      go true = due-agree q (whole-data s q m) (data-byte s q) j t x (λ c u g n. whole-data-right c u x g n l) ∙ sym (r .parity-due j t x h k l)
       go false = refl
 
   pub rebuilt-self : rebuilt s q m ≡ s

@@ -20,15 +20,15 @@ use Rattle.stripe.specs.Layout.{rows, revision-at, data-count-at, revisionOf, d
 use Rattle.stripe.specs.Params.{Admitted}
 use Rattle.stripe.specs.Reading.{Image}
 use Rattle.stripe.specs.declared.Params.{Params}
-use Rattle.parity.proofs.Touching.{due-touches}
-use Rattle.parity.specs.Parity.{due}
-use Rattle.parity.specs.Touches.{touches}
+use Rattle.block.proofs.Touching.{due-touches}
+use Rattle.block.specs.Parity.{due}
+use Rattle.block.specs.Touches.{touches}
 use Rattle.write.proofs.Accepted.{judged-current, written-rest, written-image, written-small, written-strip-here, written-strip-elsewhere, written-parity, written-revision-here, written-revision-elsewhere}
-use Rattle.write.specs.Revision.{age-number, judged, renewed}
+use Rattle.revision.specs.Revision.{age-number, judged, renewed}
 use Rattle.write.specs.Steps.{Kept}
 use Rattle.write.specs.Written.{written, difference}
-use Rattle.write.specs.declared.Age.{Age}
-use Rattle.write.specs.declared.Age.the-variants.{Current, Older, Newer}
+use Rattle.revision.specs.declared.Age.{Age}
+use Rattle.revision.specs.declared.Age.the-variants.{Current, Older, Newer}
 use Rattle.store.proofs.Arrange.{arranged-by}
 use Rattle.store.proofs.Carry.{sound-column, sound-row, agree-refl, image-settled}
 use Rattle.store.proofs.Keyed.{accepts-sound, after-yes, after-no}

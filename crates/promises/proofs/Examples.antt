@@ -19,12 +19,13 @@ use Rattle.stripe.specs.Reading.{readOf, withParams, sectionsOf}
 use Rattle.ring.specs.Answer.{divide-answer, different}
 use Rattle.parity.specs.Answer.{makeOf, make-checked, make-sound, checkOf, check-read, wrong-parities, parity-right}
 use Rattle.parity.specs.Make.{made}
-use Rattle.parity.specs.Parity.{due-at, due}
-use Rattle.parity.specs.Touches.{touches, touch-word, count}
-use Rattle.write.specs.Revision.{judged, distance, renewed}
+use Rattle.block.specs.Parity.{due-at, due}
+use Rattle.block.specs.Touches.{touches, touch-word, count}
+use Rattle.revision.specs.Revision.{judged, distance, renewed}
 use Rattle.write.specs.Written.{writeOf, write-read, write-sound, write-judged, written, moved, difference}
-use Rattle.rebuild.specs.Answer.{rebuildOf, rebuild-read, pattern-fits, few-lost}
-use Rattle.rebuild.specs.Lost.{rebuilt, whole-data, whole-parity, recovered, consulted, lost-exponents, present-exponents, consulted-lanes, present-lanes}
+use Rattle.rebuild.specs.Answer.{rebuildOf, rebuild-read}
+use Rattle.pattern.specs.Pattern.{pattern-fits, few-lost, consulted, lost-exponents, present-exponents}
+use Rattle.rebuild.specs.Lost.{rebuilt, whole-data, whole-parity, recovered, consulted-lanes, present-lanes}
 use Rattle.promises.specs.Table.{bench}
 
 pub examples-right : map (λ r. r .given) bench ≡ map (λ r. r .expected) bench

@@ -25,8 +25,9 @@ use Rattle.stripe.specs.declared.Reading.the-variants.{Stripe, Refused as Unrea
 use Rattle.parity.specs.declared.Outcome.the-variants.{Refused}
 use Rattle.rebuild.proofs.Cells.{rebuilt-data, rebuilt-parity, rebuilt-length}
 use Rattle.rebuild.proofs.Whole.{whole-data-present, whole-parity-present}
-use Rattle.rebuild.specs.Answer.{asked, asked-read, pattern-fits, few-lost, column-strip-at, shown, shown-asked, restoreOf, restore-asked, rebuildOf, rebuild-read}
-use Rattle.rebuild.specs.Lost.{is-lost, whole-data, whole-parity, whole-byte, rebuilt}
+use Rattle.rebuild.specs.Answer.{column-strip-at, shown, shown-asked, restoreOf, restore-asked, rebuildOf, rebuild-read}
+use Rattle.pattern.specs.Pattern.{asked, asked-read, pattern-fits, few-lost, is-lost}
+use Rattle.rebuild.specs.Lost.{whole-data, whole-parity, whole-byte, rebuilt}
 
 not-refused : (q : Params) (w : Reading) → w ≡ Stripe q → (e : Refusal) → w ≡ Unread e → ⊥
 not-refused q w f e g = let z : _≡_ {A = ℕ} 0 1 = cc in omega arith

@@ -25,13 +25,14 @@ use Rattle.algebra.specs.Recovery.{freed, kept, lost}
 use Rattle.stripe.specs.Layout.{rows, data-byte, parity-byte}
 use Rattle.stripe.specs.Params.{Admitted}
 use Rattle.stripe.specs.declared.Params.{Params}
-use Rattle.parity.specs.Parity.{due}
-use Rattle.rebuild.proofs.Count.{length-consulted, length-lost, consulted-distinct, lost-distinct, lost-cross, weight-mark, weight-none, prime-rows}
-use Rattle.rebuild.proofs.Decoded.{length-freed, freed-good, sum-row, lane-is, lane-ext, lane-good, good-table}
-use Rattle.rebuild.proofs.Marks.{kept-ext, length-table, count-lost, lost-at}
+use Rattle.block.proofs.Touching.{lane-ext}
+use Rattle.block.specs.Parity.{due}
+use Rattle.pattern.proofs.Count.{length-consulted, length-lost, consulted-distinct, lost-distinct, lost-cross, weight-mark, weight-none, prime-rows}
+use Rattle.rebuild.proofs.Decoded.{length-freed, freed-good, sum-row, lane-is, lane-good, good-table}
+use Rattle.pattern.proofs.Marks.{kept-ext, length-table, count-lost, lost-at}
 use Rattle.rebuild.proofs.Whole.{length-consulted-lanes, consulted-good, present-good, whole-due}
-use Rattle.rebuild.specs.Answer.{few-lost}
-use Rattle.rebuild.specs.Lost.{is-lost, lost-marks, lost-count, data-exponents, lost-exponents, present-exponents, consulted, consulted-lanes, present-lanes, recovered, whole-data}
+use Rattle.pattern.specs.Pattern.{few-lost, is-lost, lost-marks, lost-count, data-exponents, lost-exponents, present-exponents, consulted}
+use Rattle.rebuild.specs.Lost.{consulted-lanes, present-lanes, recovered, whole-data}
 
 -- ---- over plain lists
 

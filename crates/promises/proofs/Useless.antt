@@ -23,16 +23,17 @@ use Rattle.refusal.specs.declared.Refusal.the-variants.{Stale}
 use Rattle.stripe.specs.Examples.{example-image}
 use Rattle.stripe.specs.Params.{checkedOf, admitted-prime, admitted-shape, admitted-strip}
 use Rattle.stripe.specs.Reading.{readOf, withParams, sectionsOf}
-use Rattle.parity.specs.Parity.{due}
-use Rattle.parity.specs.Touches.{touches, touch-word, count}
+use Rattle.block.specs.Parity.{due}
+use Rattle.block.specs.Touches.{touches, touch-word, count}
 use Rattle.write.proofs.Examples.{ninth, tenth}
-use Rattle.write.specs.Revision.{judged, distance, renewed}
+use Rattle.revision.specs.Revision.{judged, distance, renewed}
 use Rattle.write.specs.Written.{writeOf, write-read, write-sound, write-judged, written, moved, difference}
 use Rattle.parity.specs.declared.Outcome.{Outcome}
 use Rattle.write.specs.declared.Written.{Written}
 use Rattle.write.specs.declared.Written.the-variants.{Accepted, Refused}
-use Rattle.rebuild.specs.Answer.{rebuildOf, rebuild-read, pattern-fits, few-lost}
-use Rattle.rebuild.specs.Lost.{rebuilt, whole-data, whole-parity, recovered, consulted, lost-exponents, present-exponents, consulted-lanes, present-lanes}
+use Rattle.rebuild.specs.Answer.{rebuildOf, rebuild-read}
+use Rattle.pattern.specs.Pattern.{pattern-fits, few-lost, consulted, lost-exponents, present-exponents}
+use Rattle.rebuild.specs.Lost.{rebuilt, whole-data, whole-parity, recovered, consulted-lanes, present-lanes}
 use Rattle.store.specs.Image.{image-last}
 use Rattle.store.specs.Store.{Write, Entry}
 use Rattle.promises.specs.Demand3.{last-image, left}

@@ -13,11 +13,11 @@ use Rattle.stripe.proofs.Frame.{image-read}
 use Rattle.stripe.specs.Layout.{rows, revisionOf, data-byte, parity-byte}
 use Rattle.stripe.specs.Reading.{Image}
 use Rattle.stripe.specs.declared.Params.{Params}
-use Rattle.parity.specs.Touches.{count, touches}
-use Rattle.write.specs.Revision.{age-number, judged, renewed}
+use Rattle.block.specs.Touches.{count, touches}
+use Rattle.revision.specs.Revision.{age-number, judged, renewed}
 use Rattle.write.specs.Written.{write-judged, write-sound, write-read, writeOf, written, written-number, written-revision, written-count}
-use Rattle.write.specs.declared.Age.{Age}
-use Rattle.write.specs.declared.Age.the-variants.{Current, Older, Newer}
+use Rattle.revision.specs.declared.Age.{Age}
+use Rattle.revision.specs.declared.Age.the-variants.{Current, Older, Newer}
 use Rattle.write.specs.declared.Written.{Written}
 use Rattle.write.specs.declared.Written.the-variants.{Refused}
 use Rattle.store.specs.Kinds.{keyed, rulesOf, by-column}

@@ -2,9 +2,9 @@
 -- same answer in both, the final images are equal, each data strip holds its last accepted write or its old bytes, right parity stays right, and
 -- a sound write is refused exactly when its revision isn't current." "Writes that name no data column may stand anywhere in the list."
 -- Assumes nothing.
-use Prim.Native.Nat.{ℕ, _-_, _<_, _^_}
+use Prim.Native.Nat.{ℕ, _<_, _^_}
 use mathlib.Core.Path.{_≡_}
-use mathlib.Core.List.{List, [], _∷_}
+use mathlib.Core.List.{List}
 use mathlib.Core.Logic.{_↔_}
 use lib.ListN.{length, getD}
 use Rattle.laws.specs.Left.{Left}
@@ -12,11 +12,10 @@ use Rattle.laws.specs.Xor.{_⊕_}
 use Rattle.stripe.specs.declared.Params.{Params}
 use Rattle.stripe.specs.Layout.{rows, revisionOf, data-byte, parity-byte}
 use Rattle.stripe.specs.Reading.{Image}
-use Rattle.store.specs.Lists.{keep, Shuffled}
+use Rattle.store.specs.Lists.{Shuffled}
 use Rattle.store.specs.Store.{Write, Entry, Answer, Logged, Once, under, last-accepted, byte-of}
-use Rattle.store.specs.Kinds.{by-column, Arrangement}
 use Rattle.store.specs.Image.{image-log, image-last}
-use Rattle.parity.specs.Parity.{due, Right}
+use Rattle.block.specs.Parity.{due, Right}
 use Rattle.write.specs.declared.Written.{Written}
 use Rattle.write.specs.Written.{writeOf, written-number, written-revision, written-count}
 

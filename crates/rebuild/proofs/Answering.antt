@@ -22,11 +22,13 @@ use Rattle.stripe.specs.declared.Reading.{Reading}
 use Rattle.stripe.specs.declared.Reading.the-variants.{Stripe, Refused as Unread}
 use Rattle.parity.specs.declared.Outcome.{Outcome}
 use Rattle.parity.specs.declared.Outcome.the-variants.{Done, Refused}
-use Rattle.rebuild.proofs.Asking.{asked-sound}
+use Rattle.pattern.proofs.Asking.{asked-sound}
 use Rattle.rebuild.proofs.Filling.{places-lent}
-use Rattle.rebuild.specs.Answer.{asked, few-lost, pattern-fits, rebuild-read, rebuildOf, restore-asked, restoreOf}
-use Rattle.rebuild.specs.Inner.{Begins, Planned, Prepared, Repairable, Strip-lost}
-use Rattle.rebuild.specs.Lost.{is-lost, rebuilt, whole-byte}
+use Rattle.rebuild.specs.Answer.{rebuild-read, rebuildOf, restore-asked, restoreOf}
+use Rattle.pattern.specs.Pattern.{asked, few-lost, pattern-fits, is-lost}
+use Rattle.pattern.specs.Inner.{Begins}
+use Rattle.rebuild.specs.Inner.{Planned, Prepared, Repairable, Strip-lost}
+use Rattle.rebuild.specs.Lost.{rebuilt, whole-byte}
 use Rattle.rebuild.specs.Words.{places}
 
 -- ---- restore: w is what `ask` gave, c the scratch, l whether the column is lost

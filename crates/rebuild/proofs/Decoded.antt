@@ -28,7 +28,7 @@ use Rattle.algebra.specs.Lane.{D, act, Apart}
 use Rattle.algebra.specs.Prime.{odd-prime}
 use Rattle.algebra.specs.Recovery.{freed, acting, kept, entryOf, wordsOf, composedOf, with, rowOf}
 use Rattle.algebra.specs.Word.{inverseOf}
-use Rattle.rebuild.proofs.Marks.{length-table, getD-table}
+use Rattle.pattern.proofs.Marks.{length-table, getD-table}
 
 module _ (n : ℕ) where
   -- ---- even lanes
@@ -94,9 +94,6 @@ module _ (n : ℕ) where
 
   pub lane-is : (s f : ℕ → ℕ) → Good n f → ((i : ℕ) → i < n → s i ≡ f i) → lane n s ≡ f
   lane-is s f g h = fun-ext (even-ext n (lane n s) f (lane-periodic n s) (g .0) (lane-even n s) (g .1) (λ i l. lane-at n s i l ∙ h i l))
-
-  pub lane-ext : (s t : ℕ → ℕ) → ((i : ℕ) → i < n → s i ≡ t i) → lane n s ≡ lane n t
-  lane-ext s t h = lane-is s (lane n t) (lane-good t) (λ i l. h i l ∙ sym (lane-at n t i l))
 
   -- ---- lengths
 

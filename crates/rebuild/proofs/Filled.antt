@@ -19,7 +19,8 @@ use Rattle.rebuild.proofs.Cells.{is-rebuilt}
 use Rattle.rebuild.proofs.Whole.{whole-data-present, whole-parity-present}
 use Rattle.rebuild.specs.Agrees.{AgreesOutside}
 use Rattle.rebuild.specs.Answer.{column-strip-at}
-use Rattle.rebuild.specs.Lost.{is-lost, whole-data, whole-parity, whole-byte, rebuilt}
+use Rattle.rebuild.specs.Lost.{whole-data, whole-parity, whole-byte, rebuilt}
+use Rattle.pattern.specs.Pattern.{is-lost}
 
 pub agrees-self : (s : List ℕ) (q : Params) (m : ℕ) → AgreesOutside s s q m
 agrees-self s q m = record { len = refl; front = λ o h. refl; count = λ o h k. refl; data-there = λ i t x h k l e. refl; parity-there = λ j t x h k l e. refl }

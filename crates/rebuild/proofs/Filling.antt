@@ -29,9 +29,11 @@ use Rattle.rebuild.proofs.Placing.{begun}
 use Rattle.rebuild.proofs.Ranges.{length-column-words, length-places, places-columns}
 use Rattle.rebuild.proofs.Words.{words-right}
 use Rattle.rebuild.specs.Agrees.{AgreesOutside}
-use Rattle.rebuild.specs.Answer.{column-strip-at, few-lost}
-use Rattle.rebuild.specs.Inner.{Begins, Column-filled, Prepared, Strip-asked, Strip-lost, Strip-place}
-use Rattle.rebuild.specs.Lost.{is-lost, rebuilt, whole-byte}
+use Rattle.rebuild.specs.Answer.{column-strip-at}
+use Rattle.pattern.specs.Pattern.{few-lost, is-lost}
+use Rattle.pattern.specs.Inner.{Begins}
+use Rattle.rebuild.specs.Inner.{Column-filled, Prepared, Strip-asked, Strip-lost, Strip-place}
+use Rattle.rebuild.specs.Lost.{rebuilt, whole-byte}
 use Rattle.rebuild.specs.Words.{column-words, places}
 
 -- ---- clearing and copying

@@ -19,13 +19,14 @@ use Rattle.stripe.proofs.Frame.{image-same}
 use Rattle.stripe.specs.Layout.{rows, data-byte, parity-byte}
 use Rattle.stripe.specs.Reading.{Image}
 use Rattle.stripe.specs.declared.Params.{Params}
-use Rattle.parity.specs.Parity.{due}
+use Rattle.block.proofs.Touching.{lane-ext, due-agree}
+use Rattle.block.specs.Parity.{due}
 use Rattle.rebuild.proofs.Cells.{is-rebuilt, rebuilt-length, rebuilt-front, rebuilt-count, rebuilt-data, rebuilt-parity}
-use Rattle.rebuild.proofs.Decoded.{lane-ext}
-use Rattle.rebuild.proofs.Marks.{map-take, map-kept, kept-ext}
-use Rattle.rebuild.proofs.Whole.{due-ext, whole-data-present, whole-parity-present}
+use Rattle.pattern.proofs.Marks.{map-take, map-kept, kept-ext}
+use Rattle.rebuild.proofs.Whole.{whole-data-present, whole-parity-present}
 use Rattle.rebuild.specs.Agrees.{AgreesOutside}
-use Rattle.rebuild.specs.Lost.{is-lost, parity-marks, lost-count, lost-exponents, present-exponents, consulted, consulted-lanes, present-lanes, recovered, whole-data, whole-parity, whole-byte, rebuilt}
+use Rattle.rebuild.specs.Lost.{consulted-lanes, present-lanes, recovered, whole-data, whole-parity, whole-byte, rebuilt}
+use Rattle.pattern.specs.Pattern.{is-lost, parity-marks, lost-count, lost-exponents, present-exponents, consulted}
 
 -- a list over the consulted columns is taken from one over the present parity columns
 consulted-map : {A : Type 0} (F : ℕ → A) (q : Params) (m : ℕ) → map F (consulted q m) ≡ take (lost-count q m) (kept (parity-marks q m) (table (q .r) F))
@@ -73,7 +74,7 @@ module _ (s u : List ℕ) (q : Params) (m : ℕ) (g : AgreesOutside s u q m) whe
       where
         go : (b : Bool) → is-lost m (q .k + j) ≡ b
             → choose b (due q (whole-data s q m) j t x) (parity-byte s q j t x) ≡ choose b (due q (whole-data u q m) j t x) (parity-byte u q j t x)
-        go true e = due-ext q (whole-data s q m) (whole-data u q m) j t x whole-data-agrees
+        go true e = due-agree q (whole-data s q m) (whole-data u q m) j t x whole-data-agrees
         go false e = sym (g .parity-there j t x l k h e)
 
     pub whole-byte-agrees : (n t : ℕ) → n < q .k + q .r → t < rows q → whole-byte s q m n t x ≡ whole-byte u q m n t x

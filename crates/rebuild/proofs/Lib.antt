@@ -1,5 +1,3 @@
-pub mod Marks
-pub mod Count
 pub mod Decoded
 pub mod Ranges
 pub mod Whole
@@ -7,9 +5,7 @@ pub mod Words
 pub mod Cells
 pub mod Independent
 pub mod Filled
-pub mod Asking
 pub mod Showing
-pub mod Collecting
 pub mod Placing
 pub mod Wording
 pub mod Filling

@@ -17,9 +17,10 @@ use Rattle.algebra.specs.Recovery.{Rising}
 use Rattle.stripe.specs.Layout.{data-at, parity-at}
 use Rattle.stripe.specs.Params.{Admitted}
 use Rattle.stripe.specs.declared.Params.{Params}
-use Rattle.rebuild.proofs.Count.{consulted-rising, length-consulted, length-present, lost-within, present-rising, rising-at}
-use Rattle.rebuild.specs.Inner.{Begins, Places-asked, Repairable, place-of}
-use Rattle.rebuild.specs.Lost.{consulted, present-exponents}
+use Rattle.pattern.proofs.Count.{consulted-rising, length-consulted, length-present, lost-within, present-rising, rising-at}
+use Rattle.rebuild.specs.Inner.{Places-asked, Repairable, place-of}
+use Rattle.pattern.specs.Pattern.{consulted, present-exponents}
+use Rattle.pattern.specs.Inner.{Begins}
 use Rattle.rebuild.specs.Words.{places}
 
 -- ---- lists that arrays begin with

@@ -19,10 +19,9 @@ use Rattle.stripe.specs.Layout.{data-at, parity-at, column-length, image-length
 use Rattle.stripe.specs.Reading.{Image}
 use Rattle.stripe.specs.declared.Params.{Params}
 use Rattle.engine.specs.Strips.{Columns}
-use Rattle.rebuild.proofs.Count.{length-present, length-consulted, rising-at, consulted-rising, present-rising}
-use Rattle.rebuild.proofs.Marks.{length-table}
-use Rattle.rebuild.specs.Answer.{few-lost}
-use Rattle.rebuild.specs.Lost.{lost-count, lost-exponents, present-exponents, consulted}
+use Rattle.pattern.proofs.Count.{length-present, length-consulted, rising-at, consulted-rising, present-rising}
+use Rattle.pattern.proofs.Marks.{length-table}
+use Rattle.pattern.specs.Pattern.{few-lost, lost-count, lost-exponents, present-exponents, consulted}
 use Rattle.rebuild.specs.Words.{places, matrix-row, data-words, parity-row, parity-words, column-words}
 
 length-with : {A : Type 0} (f : A → A → A) (k l : List A) → length k ≡ length l → length (with f k l) ≡ length k

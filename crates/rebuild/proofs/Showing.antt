@@ -1,24 +1,49 @@
 -- The ways out of `show` and `show_refusal`: w is what `ask` gave, l whether the column is lost.
 -- Assumes nothing.
-use Prim.Native.Nat.{_+_, _-_, _≤_, ℕ}
+use Prim.Native.Nat.{_+_, _-_, _<_, _≤_, ℕ}
 use mathlib.Core.Bool.{Bool, false, true}
 use mathlib.Core.List.{List, []}
 use mathlib.Core.Path.{_∙_, _≡_, ap, ap₂, sym}
 use native.Mathlib.Nat.{add-comm}
 use native.Mathlib.Omega.{arith}
 use lib.ListN.{drop, length, take}
+use borrow.Author.Tests.{le-ltb, lt-ltb}
 use Rattle.laws.specs.Choose.{choose}
 use Rattle.laws.specs.Part.{part}
+use Rattle.stripe.proofs.Places.{parity-in, parity-strip-in, parity-strip-small, strip-in, strip-small}
+use Rattle.stripe.specs.Layout.{parity-strip-at, strip-at}
 use Rattle.refusal.specs.Number.{numberOf}
 use Rattle.stripe.specs.Reading.{reading-number}
 use Rattle.refusal.specs.declared.Refusal.{Refusal}
 use Rattle.stripe.specs.declared.Params.{Params}
 use Rattle.stripe.specs.declared.Reading.{Reading}
 use Rattle.stripe.specs.declared.Reading.the-variants.{Stripe, Refused as Unread}
-use Rattle.rebuild.proofs.Asking.{asked-sound}
-use Rattle.rebuild.specs.Answer.{asked, column-strip-at, show-number, shown, shown-asked, shown-asked-at, shown-at}
+use Rattle.pattern.proofs.Asking.{asked-sound}
+use Rattle.rebuild.specs.Answer.{column-strip-at, show-number, shown, shown-asked, shown-asked-at, shown-at}
+use Rattle.pattern.specs.Inner.{Cell}
+use Rattle.pattern.specs.Pattern.{asked, is-lost}
 use Rattle.rebuild.specs.Inner.{Strip-place}
-use Rattle.rebuild.specs.Lost.{is-lost}
+
+-- ---- where a strip starts
+
+module _ (q : Params) (n t x : ℕ) (c : Cell q n t) where
+  pub data-place : n < q .k → x ≡ strip-at q n t → Strip-place q n t x
+  data-place h e = record {
+    is = e ∙ sym (ap (λ (b : Bool). choose b (strip-at q n t) (parity-strip-at q (n - q .k) t)) (lt-ltb n (q .k) h));
+    inside = omega (arith, strip-in q n t h (c .row), parity-in q);
+    small = omega (arith, strip-small q n t (c .admitted) h (c .row));
+  }
+
+  pub parity-place : q .k ≤ n → x ≡ parity-strip-at q (n - q .k) t → Strip-place q n t x
+  parity-place h e =
+      let l : n - q .k < q .r = omega (arith, c .column) in
+      record {
+        is = e ∙ sym (ap (λ (b : Bool). choose b (strip-at q n t) (parity-strip-at q (n - q .k) t)) (le-ltb n (q .k) h));
+        inside = omega (arith, parity-strip-in q (n - q .k) t l (c .row));
+        small = omega (arith, parity-strip-small q (n - q .k) t (c .admitted) l (c .row));
+      }
+
+-- ---- what is shown
 
 module _ (s c : List ℕ) (m n t : ℕ) (w : Reading) (e : w ≡ asked s m n t (length c)) where
   module _ (x : Refusal) (f : w ≡ Unread x) where

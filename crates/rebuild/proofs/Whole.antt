@@ -1,12 +1,11 @@
 -- The lanes that rebuilding consults, those that it recovers, and the whole data that they make.
 -- Assumes nothing.
-use Prim.Native.Nat.{ℕ, _+_, _<_}
+use Prim.Native.Nat.{ℕ, _+_}
 use mathlib.Core.Bool.{Bool, false}
 use mathlib.Core.List.{List}
 use mathlib.Core.Path.{_≡_, sym, ap, ap₂, _∙_}
 use lib.Dec.{T}
 use lib.ListN.{length, length-map, getD}
-use Rattle.laws.proofs.Sum.{sum-ext}
 use Rattle.laws.specs.Bit.{weight}
 use Rattle.laws.specs.Choose.{choose}
 use Rattle.laws.specs.Part.{table}
@@ -20,18 +19,12 @@ use Rattle.algebra.specs.Lane.{D}
 use Rattle.algebra.specs.Recovery.{freed, kept, lost}
 use Rattle.stripe.specs.Layout.{rows, data-byte, parity-byte}
 use Rattle.stripe.specs.declared.Params.{Params}
-use Rattle.parity.specs.Parity.{due}
-use Rattle.rebuild.proofs.Count.{weight-mark, weight-none, length-lost, length-consulted}
-use Rattle.rebuild.proofs.Decoded.{good-map, good-kept, good-table, good-at, lane-good, lane-self, decode-good, freed-good, length-decode, length-freed, sum-row, lane-ext}
-use Rattle.rebuild.proofs.Marks.{kept-ext, lost-filled, length-table}
-use Rattle.rebuild.specs.Answer.{few-lost}
-use Rattle.rebuild.specs.Lost.{is-lost, lost-marks, lost-count, data-exponents, lost-exponents, present-exponents, consulted, consulted-lanes, present-lanes, recovered, whole-data, whole-parity}
-
--- a parity depends on the strips of the data columns only
-pub due-ext : (q : Params) (d e : ℕ → ℕ → ℕ → ℕ) (j t x : ℕ) → ((i u : ℕ) → i < q .k → u < rows q → d i u x ≡ e i u x) → due q d j t x ≡ due q e j t x
-unfolding due
-due-ext q d e j t x h =
-    sum-ext (q .k) (λ i l. ap (λ (f : ℕ → ℕ). over (rows q) j (q .r + i) f t) (lane-ext (rows q) (λ u. d i u x) (λ u. e i u x) (λ u k. h i u l k)))
+use Rattle.block.specs.Parity.{due}
+use Rattle.pattern.proofs.Count.{weight-mark, weight-none, length-lost, length-consulted}
+use Rattle.rebuild.proofs.Decoded.{good-map, good-kept, good-table, good-at, lane-good, lane-self, decode-good, freed-good, length-decode, length-freed, sum-row}
+use Rattle.pattern.proofs.Marks.{kept-ext, lost-filled, length-table}
+use Rattle.pattern.specs.Pattern.{few-lost, is-lost, lost-marks, lost-count, data-exponents, lost-exponents, present-exponents, consulted}
+use Rattle.rebuild.specs.Lost.{consulted-lanes, present-lanes, recovered, whole-data, whole-parity}
 
 -- "Present bytes .. stay."
 pub whole-data-present : (s : List ℕ) (q : Params) (m i t x : ℕ) → is-lost m i ≡ false → whole-data s q m i t x ≡ data-byte s q i t x

@@ -7,7 +7,7 @@ use mathlib.Core.Path.{_∙_, _≡_, ap, ap₂, refl, subst, sym}
 use native.Mathlib.Nat.{zero-add}
 use native.Mathlib.Omega.{arith}
 use lib.Bits.{bitXor}
-use lib.Dec.{ltb}
+use lib.Dec.{T, ltb}
 use lib.ListN.{drop, getD, length, length-append, length-drop, length-map, set, take}
 use lib.Seq.{drop-at, ext-getD, getD-take, length-take-le, take-add, take-at, take-take}
 use borrow.Author.Tests.{le-ltb, lt-ltb}
@@ -21,7 +21,7 @@ use Rattle.laws.specs.Patch.{Patched}
 use Rattle.laws.specs.Xor.{_⊕_}
 use Rattle.algebra.proofs.Bounds.{entry-lt, row-lt}
 use Rattle.algebra.proofs.Composed.{composed-length}
-use Rattle.algebra.specs.Cauchy.{Off}
+use Rattle.algebra.specs.Cauchy.{Off, Distinct, Cross}
 use Rattle.algebra.specs.Lane.{Apart}
 use Rattle.algebra.specs.Prime.{Modulus}
 use Rattle.algebra.specs.Recovery.{composedOf, entryOf, rowOf, with, wordsOf}
@@ -30,13 +30,28 @@ use Rattle.ring.specs.Ring.{Exponents}
 use Rattle.solver.proofs.Lists.{words-by, zip, zip-end, zip-more, zipAt}
 use Rattle.solver.specs.Matrix.{Recovery, Solvable, Square, cell}
 use Rattle.solver.specs.System.{Consulted, Row, Words}
+use Rattle.stripe.specs.Layout.{rows}
+use Rattle.stripe.specs.Params.{Admitted}
 use Rattle.stripe.specs.declared.Params.{Params}
-use Rattle.rebuild.proofs.Count.{length-consulted, length-lost, length-present, lost-small, lost-within, parity-mark, parity-none, parity-off-lost, parity-off-present, present-apart, solvable, weight-mark}
-use Rattle.rebuild.proofs.Marks.{count-up, getD-table, length-table}
+use Rattle.pattern.proofs.Count.{length-consulted, length-lost, length-present, lost-small, lost-within, parity-mark, parity-none, parity-off-lost, parity-off-present, present-apart, weight-mark, prime-next, consulted-distinct, lost-distinct, lost-cross}
+use Rattle.pattern.proofs.Marks.{count-up, getD-table, length-table}
 use Rattle.rebuild.proofs.Placing.{begins-two, begun}
-use Rattle.rebuild.specs.Inner.{Begins, Direct, Matrix-column, Planned, Repairable, Row-given, row-words}
-use Rattle.rebuild.specs.Lost.{consulted, is-lost, lost-count, lost-exponents, present-exponents}
+use Rattle.rebuild.specs.Inner.{Direct, Matrix-column, Planned, Repairable, Row-given, row-words}
+use Rattle.pattern.specs.Pattern.{few-lost, consulted, is-lost, lost-count, lost-exponents, present-exponents}
+use Rattle.pattern.specs.Inner.{Begins}
 use Rattle.rebuild.specs.Words.{column-words, data-words, matrix-row, parity-row, parity-words}
+
+-- the system of the lost data
+solvable : (q : Params) (m : ℕ) → Admitted q → T (few-lost q m) → Solvable (q .p) (consulted q m) (lost-exponents q m)
+solvable q m a t =
+    let e : suc (rows q) ≡ q .p = sym (prime-next q a) in
+    record {
+      few = omega (arith, length-consulted q m t, lost-small q m a t);
+      same = length-lost q m ∙ sym (length-consulted q m t);
+      distinct-x = subst (λ (p : ℕ). Distinct (Apart p) (consulted q m)) e (consulted-distinct q m a);
+      distinct-y = subst (λ (p : ℕ). Distinct (Apart p) (lost-exponents q m)) e (lost-distinct q m a);
+      cross = subst (λ (p : ℕ). Cross (Apart p) (consulted q m) (lost-exponents q m)) e (lost-cross q m a);
+    }
 
 -- ---- lists by their places
 

@@ -20,15 +20,15 @@ use Rattle.algebra.specs.Word.{inverseOf}
 use Rattle.stripe.specs.Layout.{rows, data-at, parity-at}
 use Rattle.stripe.specs.Params.{Admitted}
 use Rattle.stripe.specs.declared.Params.{Params}
-use Rattle.parity.specs.Parity.{due}
+use Rattle.block.specs.Parity.{due}
 use Rattle.engine.proofs.Masked.{taken-acting}
 use Rattle.engine.specs.Strips.{taken}
-use Rattle.rebuild.proofs.Count.{prime-next, length-consulted, length-lost, present-cross, prime-rows}
+use Rattle.pattern.proofs.Count.{prime-next, length-consulted, length-lost, present-cross, prime-rows}
 use Rattle.rebuild.proofs.Decoded.{data-acting, parity-acting}
-use Rattle.rebuild.proofs.Marks.{map-kept}
+use Rattle.pattern.proofs.Marks.{map-kept}
 use Rattle.rebuild.proofs.Whole.{length-consulted-lanes, consulted-good, present-good, whole-due}
-use Rattle.rebuild.specs.Answer.{few-lost}
-use Rattle.rebuild.specs.Lost.{is-lost, lost-marks, lost-count, data-exponents, lost-exponents, present-exponents, consulted, consulted-lanes, present-lanes, recovered, whole-data, whole-parity, whole-byte}
+use Rattle.pattern.specs.Pattern.{few-lost, is-lost, lost-marks, lost-count, data-exponents, lost-exponents, present-exponents, consulted}
+use Rattle.rebuild.specs.Lost.{consulted-lanes, present-lanes, recovered, whole-data, whole-parity, whole-byte}
 use Rattle.rebuild.specs.Words.{places, matrix-row, data-words, parity-row, parity-words, column-words}
 
 -- the columns at the places are the consulted lanes and the present ones

@@ -7,7 +7,7 @@ use mathlib.Core.Path.{_≡_}
 use lib.ListN.{length, getD}
 use Rattle.stripe.specs.declared.Params.{Params}
 use Rattle.stripe.specs.Layout.{rows, data-from, parity-count-at, parity-from, data-byte, parity-byte}
-use Rattle.rebuild.specs.Lost.{is-lost}
+use Rattle.pattern.specs.Pattern.{is-lost}
 
 -- u is as long as s, and has its bytes before the data, between data and parity, and in each column that is not lost
 pub record AgreesOutside (s u : List ℕ) (q : Params) (m : ℕ) : Type 0 where

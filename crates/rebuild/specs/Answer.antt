@@ -1,31 +1,22 @@
 -- What rebuild, restore, show and its companion answer, and what they leave.
 -- Assumes nothing.
-use Prim.Native.Nat.{ℕ, _+_, _-_, _*_, _^_}
-use mathlib.Core.Bool.{Bool, _&&_}
+use Prim.Native.Nat.{ℕ, _+_, _-_}
 use mathlib.Core.List.{List, []}
-use lib.Dec.{ltb, leb}
+use lib.Dec.{ltb}
 use lib.ListN.{length, take}
 use Rattle.laws.specs.Left.{Left}
 use Rattle.laws.specs.Choose.{choose}
-use Rattle.laws.specs.Bit.{weight}
 use Rattle.laws.specs.Part.{part, put, tab}
-use Rattle.refusal.specs.declared.Refusal.the-variants.{Column, Row, Many, Room}
+use Rattle.refusal.specs.declared.Refusal.the-variants.{Column, Many}
 use Rattle.stripe.specs.declared.Params.{Params}
 use Rattle.stripe.specs.declared.Reading.{Reading}
 use Rattle.stripe.specs.declared.Reading.the-variants.{Stripe, Refused as Unread}
-use Rattle.stripe.specs.Layout.{rows, strip-at, parity-strip-at}
+use Rattle.stripe.specs.Layout.{strip-at, parity-strip-at}
 use Rattle.stripe.specs.Reading.{readOf, reading-number}
 use Rattle.parity.specs.declared.Outcome.{Outcome}
 use Rattle.parity.specs.declared.Outcome.the-variants.{Done, Refused}
-use Rattle.rebuild.specs.Lost.{is-lost, whole-byte, rebuilt}
-
--- "pattern .. not below k+r" is COLUMN
-unfoldable pub pattern-fits : Params → ℕ → Bool
-pattern-fits q m = ltb m (2 ^ (q .k + q .r))
-
--- "more than r columns lost" is MANY
-unfoldable pub few-lost : Params → ℕ → Bool
-few-lost q m = leb (weight m (q .k + q .r)) (q .r)
+use Rattle.rebuild.specs.Lost.{whole-byte, rebuilt}
+use Rattle.pattern.specs.Pattern.{is-lost, pattern-fits, few-lost, asked}
 
 -- "Rebuild: a 64-bit pattern, bit n for lost column n. Order: reading, COLUMN, MANY."
 unfoldable pub rebuild-read : List ℕ → ℕ → Reading → Left Outcome
@@ -37,17 +28,6 @@ rebuild-read s m (Unread e) = record { answer = Refused e; image = s }
 
 unfoldable pub rebuildOf : List ℕ → ℕ → Left Outcome
 rebuildOf s m = rebuild-read s m (readOf s)
-
--- "Restore one strip and show: pattern, column, row, scratch. Order for both: reading, COLUMN, ROW, MANY, ROOM.": the parameters where all is sound
-unfoldable pub asked-read : ℕ → ℕ → ℕ → ℕ → Reading → Reading
-asked-read m n t room (Stripe q) =
-    choose (pattern-fits q m && ltb n (q .k + q .r))
-    (choose (ltb t (rows q)) (choose (few-lost q m) (choose (leb (q .b) room) (Stripe q) (Unread Room)) (Unread Many)) (Unread Row))
-    (Unread Column)
-asked-read m n t room (Unread e) = Unread e
-
-unfoldable pub asked : List ℕ → ℕ → ℕ → ℕ → ℕ → Reading
-asked s m n t room = asked-read m n t room (readOf s)
 
 -- "If the column is lost, restoring writes the strip that Rebuild would put there into the first B scratch bytes, otherwise nothing."
 unfoldable pub restore-asked : List ℕ → ℕ → ℕ → ℕ → List ℕ → Reading → Left Outcome

@@ -4,48 +4,32 @@ use Prim.Native.Nat.{_+_, _-_, _<_, _≤_, ℕ}
 use mathlib.Core.Bool.{true}
 use mathlib.Core.List.{List, _++_}
 use mathlib.Core.Path.{_≡_}
-use lib.Dec.{T, eqb, ltb}
+use lib.Dec.{T, ltb}
 use lib.ListN.{getD, length, take}
-use Rattle.laws.specs.Bit.{bit}
 use Rattle.laws.specs.Choose.{choose}
-use Rattle.laws.specs.Part.{table}
 use Rattle.algebra.specs.Cauchy.{Off}
 use Rattle.algebra.specs.Lane.{Apart}
 use Rattle.algebra.specs.Prime.{Modulus}
-use Rattle.algebra.specs.Recovery.{lost, wordsOf}
+use Rattle.algebra.specs.Recovery.{wordsOf}
 use Rattle.stripe.specs.Layout.{data-at, image-length, parity-at, rows}
 use Rattle.stripe.specs.Params.{Admitted}
 use Rattle.stripe.specs.Reading.{Image}
 use Rattle.engine.specs.Strips.{Columns}
 use Rattle.solver.specs.Matrix.{Recovery, cell}
 use Rattle.solver.specs.System.{Words}
+use Rattle.pattern.specs.Inner.{Cell}
 use Rattle.stripe.specs.declared.Params.{Params}
-use Rattle.parity.specs.declared.Outcome.{Outcome}
 use Rattle.rebuild.specs.Agrees.{AgreesOutside}
-use Rattle.rebuild.specs.Answer.{column-strip-at, few-lost}
-use Rattle.rebuild.specs.Lost.{consulted, is-lost, lost-count, lost-exponents, present-exponents, whole-byte}
+use Rattle.rebuild.specs.Answer.{column-strip-at}
+use Rattle.pattern.specs.Pattern.{few-lost, consulted, is-lost, lost-count, lost-exponents, present-exponents}
+use Rattle.rebuild.specs.Lost.{whole-byte}
 use Rattle.rebuild.specs.Words.{places}
 
--- strip t of column n is there
-pub record Cell (q : Params) (n t : ℕ) : Type 0 where
-  pub admitted : Admitted q
-  pub column : n < q .k + q .r
-  pub row : t < rows q
-
--- x is where it starts, and it ends within the image
+-- x is where strip t of column n starts, and it ends within the image
 pub record Strip-place (q : Params) (n t x : ℕ) : Type 0 where
   pub is : x ≡ column-strip-at q n t
   pub inside : x + q .b ≤ image-length q
   pub small : x + q .b ≤ 2000000
-
--- the numbers base + i, in rising order, of the i below n whose bit in m is `want`
-unfoldable pub named : ℕ → ℕ → ℕ → ℕ → List ℕ
-named m want base n = lost (table n (λ i. eqb (bit m i) want)) (table n (λ i. base + i))
-
--- x has 60 places and begins with the list l
-pub record Begins (l x : List ℕ) : Type 0 where
-  pub len : length x ≡ 60
-  pub front : take (length l) x ≡ l
 
 -- admitted parameters, and no more columns lost than there are parity columns
 pub record Repairable (q : Params) (m : ℕ) : Type 0 where

@@ -1,49 +1,20 @@
 -- "Lost columns": what rebuilding puts into them.
 -- Assumes nothing.
 use Prim.Native.Nat.{ℕ, _+_, _-_, _*_, _/_, _%_}
-use mathlib.Core.Bool.{Bool}
 use mathlib.Core.List.{List, map}
-use lib.Dec.{eqb, ltb}
-use lib.ListN.{getD, take}
+use lib.Dec.{ltb}
+use lib.ListN.{getD}
 use Rattle.laws.specs.Choose.{choose}
-use Rattle.laws.specs.Bit.{bit, weight}
+use Rattle.laws.specs.Bit.{weight}
 use Rattle.laws.specs.Part.{table}
 use Rattle.laws.specs.Patch.{patch}
 use Rattle.algebra.specs.Column.{lane}
 use Rattle.algebra.specs.Code.{none, decode}
-use Rattle.algebra.specs.Recovery.{lost, kept, freed}
+use Rattle.algebra.specs.Recovery.{kept, freed}
 use Rattle.stripe.specs.declared.Params.{Params}
 use Rattle.stripe.specs.Layout.{rows, column-length, data-from, parity-from, data-byte, parity-byte}
-use Rattle.parity.specs.Parity.{due}
-
--- "a 64-bit pattern, bit n for lost column n"
-abbrev pub is-lost : ℕ → ℕ → Bool
-is-lost m n = eqb (bit m n) 1
-
--- which data columns are lost, and which parity columns
-abbrev pub lost-marks : Params → ℕ → List Bool
-lost-marks q m = table (q .k) (λ i. is-lost m i)
-
-abbrev pub parity-marks : Params → ℕ → List Bool
-parity-marks q m = table (q .r) (λ j. is-lost m (q .k + j))
-
--- "Let g data columns be lost."
-abbrev pub lost-count : Params → ℕ → ℕ
-lost-count q m = weight m (q .k)
-
--- the exponents r + i of the data columns; of the lost ones, and of the present ones
-abbrev pub data-exponents : Params → List ℕ
-data-exponents q = table (q .k) (λ i. q .r + i)
-
-unfoldable pub lost-exponents : Params → ℕ → List ℕ
-lost-exponents q m = lost (lost-marks q m) (data-exponents q)
-
-unfoldable pub present-exponents : Params → ℕ → List ℕ
-present-exponents q m = kept (lost-marks q m) (data-exponents q)
-
--- "the g lowest-numbered present parity columns"
-unfoldable pub consulted : Params → ℕ → List ℕ
-consulted q m = take (lost-count q m) (kept (parity-marks q m) (table (q .r) (λ j. j)))
+use Rattle.block.specs.Parity.{due}
+use Rattle.pattern.specs.Pattern.{is-lost, lost-marks, lost-exponents, present-exponents, consulted}
 
 -- the polynomials of byte x of the consulted parity columns, and of the present data columns
 unfoldable pub consulted-lanes : List ℕ → Params → ℕ → ℕ → List (ℕ → ℕ)

@@ -3,16 +3,15 @@
 use Prim.Native.Nat.{ℕ, _-_}
 use mathlib.Core.List.{List, _++_, map}
 use lib.Dec.{ltb}
-use lib.ListN.{length}
 use Rattle.laws.specs.Choose.{choose}
-use Rattle.laws.specs.Xor.{_⊕_}
 use Rattle.laws.specs.Bit.{weight}
 use Rattle.laws.specs.Part.{table}
+use Rattle.laws.specs.Xor.{_⊕_}
 use Rattle.algebra.specs.Recovery.{entryOf, wordsOf, composedOf, with}
 use Rattle.algebra.specs.Word.{inverseOf}
 use Rattle.stripe.specs.declared.Params.{Params}
 use Rattle.stripe.specs.Layout.{data-at, parity-at}
-use Rattle.rebuild.specs.Lost.{lost-count, consulted, lost-exponents, present-exponents}
+use Rattle.pattern.specs.Pattern.{lost-count, consulted, lost-exponents, present-exponents}
 
 -- where the consulted columns start
 unfoldable pub places : Params → ℕ → List ℕ

@@ -4,15 +4,12 @@ use refusal::Refusal;
 use stripe::Params;
 use stripe::Reading;
 ghost use mathlib.Core.Path.{_≡_};
-ghost use Prim.Native.Nat.{_+_, _*_, _<_, _≤_};
-ghost use mathlib.Core.Bool.{_&&_, true};
+ghost use Prim.Native.Nat.{_+_, _<_};
+ghost use mathlib.Core.Bool.{true};
 ghost use mathlib.Core.List.{map};
-ghost use lib.Dec.{ltb, eqb};
 ghost use lib.ListN.{length, take};
 ghost use Rattle.laws.specs.Left.{Leaves};
-ghost use Rattle.laws.specs.Choose.{choose};
-ghost use Rattle.laws.specs.Bit.{bit, weight};
-ghost use Rattle.laws.specs.Part.{put, tab};
+ghost use Rattle.laws.specs.Part.{tab};
 ghost use Rattle.laws.specs.Patch.{Patched};
 ghost use Rattle.laws.specs.Xor.{_⊕_};
 ghost use Rattle.algebra.specs.Word.{inverseOf};
@@ -23,90 +20,12 @@ ghost use Rattle.stripe.specs.Layout.{rows};
 ghost use Rattle.stripe.specs.Params.{Admitted};
 ghost use Rattle.stripe.specs.Reading.{Image};
 ghost use Rattle.stripe.specs.declared.Reading.the-variants.{Stripe};
-ghost use Rattle.rebuild.specs.Lost.{is-lost, whole-byte, rebuilt, lost-count, lost-exponents, present-exponents, consulted};
-ghost use Rattle.rebuild.specs.Answer.{pattern-fits, few-lost, asked-read, asked, column-strip-at, shown, shown-at, show-number, restoreOf, rebuild-read, rebuildOf};
+ghost use Rattle.rebuild.specs.Lost.{whole-byte, rebuilt};
+ghost use Rattle.pattern.specs.Pattern.{is-lost, lost-count, consulted, few-lost};
+ghost use Rattle.pattern.specs.Inner.{Cell, Begins};
+ghost use Rattle.rebuild.specs.Answer.{column-strip-at, shown, shown-at, show-number, restoreOf, rebuild-read, rebuildOf};
 ghost use Rattle.rebuild.specs.Words.{places, matrix-row, parity-row, parity-words, column-words};
-ghost use Rattle.rebuild.specs.Inner.{Strip-place, Cell, named, Begins, Repairable, Planned, place-of, Places-asked, Matrix-column, row-words, Row-given, Direct, Strip-lost, Strip-asked, Prepared, Column-filled};
-
-// Whether the pattern names column n.
-pub fn is_lost(lost: u64, n: usize) -> bool
-    requires { ⌜ n < 64 ⌝ }
-    ensures { λ x. ⌜ x ≡ is-lost lost n ⌝ }
-{
-    (lost >> n) % 2 == 1
-}
-
-// How many of the columns below n the pattern names.
-fn lost_below(lost: u64, n: usize) -> usize
-    requires { ⌜ n ≤ 64 ⌝ }
-    ensures { λ x. ⌜ (x ≡ weight lost n) × (x ≤ n) ⌝ }
-{
-    let mut sum: usize = 0;
-    let mut i: usize = 0;
-    while i < n {
-        sum += ((lost >> i) % 2) as usize;
-        i += 1;
-    }
-    sum
-}
-
-// Whether the pattern names columns of the stripe alone.
-fn fits(q: Params, lost: u64) -> bool
-    requires { ⌜ Admitted q ⌝ }
-    ensures { λ x. ⌜ x ≡ pattern-fits q lost ⌝ }
-{
-    lost >> (q.k + q.r) == 0
-}
-
-// Whether the column too is one of the stripe.
-fn is_within(q: Params, lost: u64, column: usize) -> bool
-    requires { ⌜ Admitted q ⌝ }
-    ensures { λ x. ⌜ x ≡ (pattern-fits q lost && ltb column (q .k + q .r)) ⌝ }
-{
-    if !fits(q, lost) {
-        return false;
-    }
-    column < q.k + q.r
-}
-
-// Whether no more columns are lost than there are parity columns.
-fn is_few(q: Params, lost: u64) -> bool
-    requires { ⌜ Admitted q ⌝ }
-    ensures { λ x. ⌜ x ≡ few-lost q lost ⌝ }
-{
-    lost_below(lost, q.k + q.r) <= q.r
-}
-
-// The parameters where strip (column, row) may be asked for with a scratch of `room` bytes, or the refusal that is due.
-fn ask_within(q: Params, lost: u64, column: usize, row: usize, room: usize) -> Reading
-    requires { ⌜ Admitted q ⌝ }
-    ensures { λ x. ⌜ x ≡ asked-read lost column row room (Stripe q) ⌝ }
-{
-    if !is_within(q, lost, column) {
-        return Reading::Refused(Refusal::Column);
-    }
-    if row >= q.p - 1 {
-        return Reading::Refused(Refusal::Row);
-    }
-    if !is_few(q, lost) {
-        return Reading::Refused(Refusal::Many);
-    }
-    if room < q.b {
-        return Reading::Refused(Refusal::Room);
-    }
-    Reading::Stripe(q)
-}
-
-// The same of an image that is read first.
-pub fn ask(image: &[u8], lost: u64, column: usize, row: usize, room: usize) -> Reading
-    ensures { λ x. ⌜ x ≡ asked (now (image .entry)) lost column row room ⌝ }
-{
-    let reading = stripe::read(image);
-    let Reading::Stripe(q) = reading else {
-        return reading;
-    };
-    ask_within(q, lost, column, row, room)
-}
+ghost use Rattle.rebuild.specs.Inner.{Strip-place, Repairable, Planned, place-of, Places-asked, Matrix-column, row-words, Row-given, Direct, Strip-lost, Strip-asked, Prepared, Column-filled};
 
 // Where strip t of column n starts.
 pub fn strip_at(q: Params, n: usize, t: usize) -> usize
@@ -131,11 +50,11 @@ pub fn show<'a>(
     ensures { λ x. ⌜ now x ≡ shown (now (image .entry)) lost column row (now (scratch .entry)) ⌝ }
     ensures { λ x. ⌜ x .ptr ≡ shown-at (now (image .entry)) lost column row (length (now (scratch .entry))) (image .entry .ptr) (scratch .entry .ptr) ⌝ }
 {
-    let Reading::Stripe(q) = ask(image, lost, column, row, scratch.len()) else {
+    let Reading::Stripe(q) = pattern::ask(image, lost, column, row, scratch.len()) else {
         return &scratch[..0];
     };
     let b = q.b;
-    if is_lost(lost, column) {
+    if pattern::is_lost(lost, column) {
         return &scratch[..b];
     }
     let at = strip_at(q, column, row);
@@ -147,65 +66,10 @@ pub fn show<'a>(
 pub fn show_refusal(image: &[u8], lost: u64, column: usize, row: usize, scratch: &[u8]) -> u64
     ensures { λ x. ⌜ x ≡ show-number (now (image .entry)) lost column row (length (now (scratch .entry))) ⌝ }
 {
-    let Reading::Refused(e) = ask(image, lost, column, row, scratch.len()) else {
+    let Reading::Refused(e) = pattern::ask(image, lost, column, row, scratch.len()) else {
         return 0;
     };
     e.number()
-}
-
-// Room for the exponents of a stripe's data columns, or of its parity columns.
-fn no_exponents() -> [usize; 60]
-    ensures { λ x. ⌜ length x ≡ 60 ⌝ }
-{
-    [0usize; 60]
-}
-
-// 1 where bit i of the pattern is `want`, else 0.
-fn wanted(pattern: u64, i: usize, want: u64) -> usize
-    requires { ⌜ i < 64 ⌝ }
-    ensures { λ x. ⌜ (x ≡ choose (eqb (bit pattern i) want) 1 0) × (x ≤ 1) ⌝ }
-{
-    if (pattern >> i) % 2 == want { 1 } else { 0 }
-}
-
-// The numbers base + i, in rising order, of the i below n whose bit in the pattern is `want`.
-fn collect(pattern: u64, n: usize, base: usize, want: u64) -> [usize; 60]
-    requires { ⌜ (n ≤ 60) × (base ≤ 60) ⌝ }
-    ensures { λ x. ⌜ Begins (named pattern want base n) x ⌝ }
-{
-    let mut out = no_exponents();
-    let mut c: usize = 0;
-    let mut i: usize = 0;
-    while i < n {
-        out[c] = base + i;
-        c += wanted(pattern, i, want);
-        i += 1;
-    }
-    out
-}
-
-// The exponents of the lost data columns.
-fn lost_data(q: Params, lost: u64) -> [usize; 60]
-    requires { ⌜ Admitted q ⌝ }
-    ensures { λ x. ⌜ Begins (lost-exponents q lost) x ⌝ }
-{
-    collect(lost, q.k, q.r, 1)
-}
-
-// The exponents of the present data columns.
-fn present_data(q: Params, lost: u64) -> [usize; 60]
-    requires { ⌜ Admitted q ⌝ }
-    ensures { λ x. ⌜ Begins (present-exponents q lost) x ⌝ }
-{
-    collect(lost, q.k, q.r, 0)
-}
-
-// The consulted parity columns: the lowest-numbered present ones, as many as data columns are lost.
-fn consulted(q: Params, lost: u64) -> [usize; 60]
-    requires { ⌜ Admitted q ⌝ }
-    ensures { λ x. ⌜ Begins (consulted q lost) x ⌝ }
-{
-    collect(lost >> q.k, q.r, 0, 0)
 }
 
 // The recovery matrix of the pattern.
@@ -213,9 +77,9 @@ fn recovery(q: Params, lost: u64) -> [[u64; 30]; 30]
     requires { ⌜ Repairable q lost ⌝ }
     ensures { λ x. ⌜ Planned q lost x ⌝ }
 {
-    let g = lost_below(lost, q.k);
-    let xs = consulted(q, lost);
-    let ys = lost_data(q, lost);
+    let g = pattern::lost_below(lost, q.k);
+    let xs = pattern::consulted(q, lost);
+    let ys = pattern::lost_data(q, lost);
     solver::recovery(&xs[0..g], &ys[0..g], q.p)
 }
 
@@ -249,11 +113,11 @@ fn places(q: Params, lost: u64) -> [usize; 60]
     ensures { λ x. ⌜ Begins (places q lost) x ⌝ }
 {
     let k = q.k;
-    let g = lost_below(lost, k);
+    let g = pattern::lost_below(lost, k);
     let h = k - g;
-    let xs = consulted(q, lost);
-    let zs = present_data(q, lost);
-    let mut out = no_exponents();
+    let xs = pattern::consulted(q, lost);
+    let zs = pattern::present_data(q, lost);
+    let mut out = pattern::no_exponents();
     place_all(q, &xs[0..g], &mut out[0..g]);
     place_all(q, &zs[0..h], &mut out[g..k]);
     out
@@ -271,7 +135,7 @@ fn data_row(q: Params, lost: u64, m: &[[u64; 30]; 30], u: usize) -> [u64; 60]
     requires { ⌜ Planned q lost (now m) × (u < 30) ⌝ }
     ensures { λ x. ⌜ Begins (matrix-row q lost u) x ⌝ }
 {
-    let g = lost_below(lost, q.k);
+    let g = pattern::lost_below(lost, q.k);
     let mut out = no_words();
     let mut v: usize = 0;
     while v < g {
@@ -307,8 +171,8 @@ fn parity_row(q: Params, lost: u64, m: &[[u64; 30]; 30], j: usize) -> [u64; 60]
     requires { ⌜ Planned q lost (now m) × (j < q .r) ⌝ }
     ensures { λ x. ⌜ Begins (parity-row q lost j) x ⌝ }
 {
-    let g = lost_below(lost, q.k);
-    let ys = lost_data(q, lost);
+    let g = pattern::lost_below(lost, q.k);
+    let ys = pattern::lost_data(q, lost);
     let mut out = no_words();
     let mut c: usize = 0;
     while c < g {
@@ -325,10 +189,10 @@ fn row_words(q: Params, lost: u64, row: [u64; 60]) -> [u64; 60]
     ensures { λ x. ⌜ Begins (row-words q lost (take (lost-count q lost) row)) x ⌝ }
 {
     let k = q.k;
-    let g = lost_below(lost, k);
+    let g = pattern::lost_below(lost, k);
     let h = k - g;
-    let xs = consulted(q, lost);
-    let zs = present_data(q, lost);
+    let xs = pattern::consulted(q, lost);
+    let zs = pattern::present_data(q, lost);
     let mut out = row;
     solver::words(&xs[0..g], &zs[0..h], &row[0..g], &mut out[g..k], q.p);
     out
@@ -352,9 +216,9 @@ fn parity_words(q: Params, lost: u64, m: &[[u64; 30]; 30], j: usize) -> [u64; 60
     ensures { λ x. ⌜ Begins (parity-words q lost j) x ⌝ }
 {
     let k = q.k;
-    let g = lost_below(lost, k);
+    let g = pattern::lost_below(lost, k);
     let h = k - g;
-    let zs = present_data(q, lost);
+    let zs = pattern::present_data(q, lost);
     let row = parity_row(q, lost, m, j);
     let mut out = row_words(q, lost, row);
     add_inverses(j, &zs[0..h], &mut out[g..k], q.p);
@@ -367,7 +231,7 @@ fn column_words(q: Params, lost: u64, m: &[[u64; 30]; 30], n: usize) -> [u64; 60
     ensures { λ x. ⌜ Begins (column-words q lost n) x ⌝ }
 {
     if n < q.k {
-        let row = data_row(q, lost, m, lost_below(lost, n));
+        let row = data_row(q, lost, m, pattern::lost_below(lost, n));
         row_words(q, lost, row)
     } else {
         parity_words(q, lost, m, n - q.k)
@@ -400,12 +264,12 @@ fn restore_strip(image: &[u8], q: Params, lost: u64, n: usize, t: usize, out: &m
 pub fn restore(image: &[u8], lost: u64, column: usize, row: usize, scratch: &mut [u8]) -> Outcome
     ensures { λ x. ⌜ Leaves (restoreOf (now (image .entry)) lost column row (now (scratch .entry))) x (now (scratch .exit)) ⌝ }
 {
-    let reading = ask(image, lost, column, row, scratch.len());
+    let reading = pattern::ask(image, lost, column, row, scratch.len());
     let Reading::Stripe(q) = reading else {
         return Outcome::Refused(reading.refusal());
     };
     let b = q.b;
-    if is_lost(lost, column) {
+    if pattern::is_lost(lost, column) {
         restore_strip(image, q, lost, column, row, &mut scratch[0..b]);
     }
     Outcome::Done
@@ -464,7 +328,7 @@ fn fill_column(
     requires { ⌜ Prepared (now image) q lost (now m) (now ats) (now strip) × (n < q .k + q .r) ⌝ }
     ensures { λ _. ⌜ Column-filled (now (image .entry)) (now (image .exit)) q lost n (rows q) ⌝ }
 {
-    if is_lost(lost, n) {
+    if pattern::is_lost(lost, n) {
         fill_strips(image, q, lost, n, m, ats, strip);
     }
 }
@@ -507,10 +371,10 @@ fn rebuild_within(image: &mut [u8], q: Params, lost: u64) -> Outcome
     requires { ⌜ Image (now image) q ⌝ }
     ensures { λ x. ⌜ Leaves (rebuild-read (now (image .entry)) lost (Stripe q)) x (now (image .exit)) ⌝ }
 {
-    if !fits(q, lost) {
+    if !pattern::fits(q, lost) {
         return Outcome::Refused(Refusal::Column);
     }
-    if !is_few(q, lost) {
+    if !pattern::is_few(q, lost) {
         return Outcome::Refused(Refusal::Many);
     }
     rebuild_lost(image, q, lost);

@@ -5,14 +5,12 @@ use mathlib.Core.List.{List}
 use mathlib.Core.Path.{_≡_, sym, ap, ap₂, _∙_, refl}
 use native.Mathlib.Nat.{mod-eq-of-lt, add-mod-right, le-refl}
 use native.Mathlib.Omega.{arith}
-use lib.Bits.{bitXor, bitOr, or-add-and, and-le-r, or-comm}
+use lib.Bits.{bitXor}
 use lib.ListN.{getD, length, set}
-use borrow.Author.Count.{below-more}
 use Rattle.laws.proofs.Patch.{patch-none, patch-more, patch-front, patch-end}
-use Rattle.laws.proofs.Xor.{⊕-zero, ⊕-self, ⊕-assoc, zero-⊕}
 use Rattle.laws.specs.Patch.{Patched}
 use Rattle.laws.specs.Xor.{_⊕_}
-use Rattle.walk.specs.Lanes.{Stepped, Stepped-first, Step-asked, ran, Shows, Row-stands, Row-put}
+use Rattle.walk.specs.Lanes.{Stepped, Stepped-first, Step-asked, ran}
 
 -- ---- `next`
 
@@ -65,58 +63,7 @@ first-more s run run′ acc acc′ at to w x h A d =
 pub first-end : (s run run′ acc acc′ : List ℕ) (at to w x : ℕ) → Stepped-first s run run′ acc acc′ at to x → x ≤ w → w ≤ x → Stepped-first s run run′ acc acc′ at to w
 first-end s run run′ acc acc′ at to w x d h g = record { running = patch-end run run′ 0 x w _ (d .running) h g; placed = patch-end acc acc′ to x w _ (d .placed) h g }
 
--- ---- `clear`, `add`, `put`
+-- ---- `clear`
 
 pub clear-more : (acc t : List ℕ) (to w x : ℕ) → to + w ≤ length acc → x < w → Patched acc t to x (λ o. 0) → Patched acc (set t (to + x) 0) to (x + 1) (λ o. 0)
 clear-more acc t to w x h l d = patch-more acc t to x (λ o. 0) 0 d (omega arith) refl
-
-pub add-more : (sum t acc : List ℕ) (row w x : ℕ) → x < w → w ≤ 128 → length sum ≡ 128 → Patched sum t 0 x (λ o. getD sum o 0 ⊕ getD acc (row + o) 0)
-    → Patched sum (set t x (bitXor (getD t x 0) (getD acc (row + x) 0))) 0 (x + 1) (λ o. getD sum o 0 ⊕ getD acc (row + o) 0)
-unfolding _⊕_
-add-more sum t acc row w x h k l d =
-    patch-front sum t x (λ o. getD sum o 0 ⊕ getD acc (row + o) 0) _ d (omega arith) (ap (λ (y : ℕ). bitXor y (getD acc (row + x) 0)) (d .above x (omega arith)))
-
-pub put-none : (s acc sum : List ℕ) (at row : ℕ) → Row-put s s acc sum at row 0
-put-none s acc sum at row = record { bytes = patch-none s at _ }
-
-pub put-more : (s t acc sum : List ℕ) (at row w x : ℕ) → x < w → at + w ≤ length s → Row-put s t acc sum at row x
-    → Row-put s (set t (at + x) (bitXor (getD acc (row + x) 0) (getD sum x 0))) acc sum at row (x + 1)
-unfolding _⊕_
-put-more s t acc sum at row w x h k d = record { bytes = patch-more s t at x (λ o. getD acc (row + o) 0 ⊕ getD sum o 0) _ (d .bytes) (omega arith) refl }
-
-pub put-end : (s t acc sum : List ℕ) (at row w x : ℕ) → Row-put s t acc sum at row x → x ≤ w → w ≤ x → Row-put s t acc sum at row w
-put-end s t acc sum at row w x d h g = record { bytes = patch-end s t at x w _ (d .bytes) h g }
-
--- ---- `differ`
-
-or-none : (a b : ℕ) → a ≡ 0 → b ≡ 0 → bitOr a b ≡ 0
-or-none a b h k = ap₂ bitOr h k
-
-or-left : (a b : ℕ) → bitOr a b ≡ 0 → a ≡ 0
-or-left a b e = omega (arith, or-add-and a b, and-le-r a b)
-
-or-right : (a b : ℕ) → bitOr a b ≡ 0 → b ≡ 0
-or-right a b e = or-left b a (or-comm b a ∙ e)
-
-xor-same : (a b : ℕ) → bitXor a b ≡ 0 → a ≡ b
-unfolding _⊕_
-xor-same a b e = sym (⊕-zero a) ∙ ap (λ (x : ℕ). bitXor a x) (sym (⊕-self b)) ∙ sym (⊕-assoc a b b) ∙ ap (λ (x : ℕ). bitXor x b) e ∙ zero-⊕ b
-
-pub differ-none : (s acc sum : List ℕ) (bad at row : ℕ) → Shows bad bad (Row-stands s acc sum at row 0)
-differ-none s acc sum bad at row = record { clean = λ h R. h; told = λ h. (h, record { bytes = λ x l. absurd (omega arith) }) }
-
-pub differ-more : (s acc sum : List ℕ) (bad all at row x : ℕ) → Shows bad all (Row-stands s acc sum at row x)
-    → Shows bad (bitOr all (bitXor (getD s (at + x) 0) (bitXor (getD acc (row + x) 0) (getD sum x 0)))) (Row-stands s acc sum at row (x + 1))
-unfolding _⊕_
-differ-more s acc sum bad all at row x d =
-    let u : ℕ = getD s (at + x) 0 in
-    let v : ℕ = bitXor (getD acc (row + x) 0) (getD sum x 0) in
-    record {
-      clean = λ h R. or-none all (bitXor u v) (d .clean h (record { bytes = λ o l. R .bytes o (omega arith) })) (ap (λ (y : ℕ). bitXor y v) (R .bytes x (omega arith)) ∙ ⊕-self v);
-      told = λ h.
-          let t = d .told (or-left all (bitXor u v) h) in
-          (t .0, record { bytes = below-more (λ o. getD s (at + o) 0 ≡ getD acc (row + o) 0 ⊕ getD sum o 0) x (t .1 .bytes) (xor-same u v (or-right all (bitXor u v) h)) });
-    }
-
-pub differ-end : (s acc sum : List ℕ) (bad all at row w x : ℕ) → Shows bad all (Row-stands s acc sum at row x) → x ≤ w → w ≤ x → Shows bad all (Row-stands s acc sum at row w)
-differ-end s acc sum bad all at row w x d h g = let e : x ≡ w = omega arith in rw e at d

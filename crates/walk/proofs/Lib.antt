@@ -1,3 +1,2 @@
 pub mod Bytes
 pub mod Places
-pub mod Quotients

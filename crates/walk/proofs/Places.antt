@@ -20,7 +20,8 @@ use Rattle.algebra.proofs.Walk.{places-differ, place-reached, walked-start, wal
 use Rattle.algebra.specs.Column.{lane}
 use Rattle.algebra.specs.Prime.{odd-prime, Modulus}
 use Rattle.algebra.specs.Walk.{walk-place}
-use Rattle.walk.specs.Lanes.{found, symbols, Walk-asked, ran, Step-asked, row-byte, Stepped, Stepped-first, Walked, Sums, sum-found, Columns-asked, Cleared}
+use Rattle.laws.specs.Part.{row-byte}
+use Rattle.walk.specs.Lanes.{found, symbols, Walk-asked, ran, Step-asked, Stepped, Stepped-first, Walked, Sums, sum-found, Columns-asked, Cleared}
 
 -- ---- the places
 

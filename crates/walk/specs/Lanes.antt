@@ -1,10 +1,10 @@
 -- What the functions of a walk ask for and what they leave. They work on w lanes, that is w bytes of each strip, and hold p rows of w bytes in `acc`.
 -- Assumes nothing.
-use Prim.Native.Nat.{ℕ, _+_, _-_, _*_, _%_, _≤_, _<_}
+use Prim.Native.Nat.{ℕ, _+_, _-_, _*_, _≤_, _<_}
 use mathlib.Core.List.{List}
-use mathlib.Core.Logic.{_≢_}
 use mathlib.Core.Path.{_≡_}
 use lib.ListN.{getD, length}
+use Rattle.laws.specs.Part.{row-byte}
 use Rattle.laws.specs.Patch.{Patched}
 use Rattle.laws.specs.Sum.{sum}
 use Rattle.laws.specs.Xor.{_⊕_}
@@ -16,10 +16,6 @@ use Rattle.algebra.specs.Walk.{walked}
 unfoldable pub symbols : List ℕ → ℕ → ℕ → ℕ → ℕ → ℕ
 symbols s base b x u = getD s (base + u * b + x) 0
 
--- byte x of row q
-abbrev pub row-byte : List ℕ → ℕ → ℕ → ℕ → ℕ
-row-byte acc w q x = getD acc (q * w + x) 0
-
 -- what the walk by 1 + x^d over that column finds at place q
 unfoldable pub found : List ℕ → ℕ → ℕ → ℕ → ℕ → ℕ → ℕ → ℕ
 found s base n b d x q = walked n d (lane n (symbols s base b x)) q
@@ -27,10 +23,6 @@ found s base n b d x q = walked n d (lane n (symbols s base b x)) q
 -- the same of k columns one after the other, by 1 + x^d, 1 + x^(d+1) and so on, added up
 unfoldable pub sum-found : List ℕ → ℕ → ℕ → ℕ → ℕ → ℕ → ℕ → ℕ → ℕ
 sum-found s from n b d k x q = sum k (λ i. found s (from + i * (n * b)) n b (d + i) x q)
-
--- row t, byte x of the quotient: its place is t + j, and the sum of all rows is added
-unfoldable pub finished : List ℕ → ℕ → ℕ → ℕ → ℕ → ℕ → ℕ
-finished acc p w j t x = row-byte acc w ((t + j) % p) x ⊕ sum p (λ q. row-byte acc w q x)
 
 -- ---- one row
 
@@ -89,54 +81,3 @@ pub record Columns-asked (s acc : List ℕ) (from p k b d w : ℕ) : Type 0 wher
   pub inside : from + k * ((p - 1) * b) + w ≤ length s + b
   pub room : p * w ≤ length acc
   pub begun : Sums s acc from p b d w 1
-
--- ---- the rows of a quotient
-
--- the sum of n rows was added
-pub record Totalled (acc sum₀ sum₁ : List ℕ) (n w : ℕ) : Type 0 where
-  pub len : length sum₁ ≡ length sum₀
-  pub bytes : (x : ℕ) → x < w → getD sum₁ x 0 ≡ getD sum₀ x 0 ⊕ sum n (λ q. row-byte acc w q x)
-
-pub record Total-asked (acc sum₀ : List ℕ) (p w : ℕ) : Type 0 where
-  pub lanes : w ≤ 128
-  pub room : p * w ≤ length acc
-  pub whole : length sum₀ ≡ 128
-
--- w bytes were put in s, those of acc with `sum₀` added
-pub record Row-put (s s′ acc sum₀ : List ℕ) (at row w : ℕ) : Type 0 where
-  pub bytes : Patched s s′ at w (λ x. getD acc (row + x) 0 ⊕ getD sum₀ x 0)
-
--- n rows of w bytes stand in s, b bytes from one to the next
-pub record Stand (s : List ℕ) (to n b w : ℕ) (v : ℕ → ℕ → ℕ) : Type 0 where
-  pub bytes : (t x : ℕ) → t < n → x < w → getD s (to + t * b + x) 0 ≡ v t x
-
--- s is now s′: these rows were put there, and no other byte changed
-pub record Laid (s s′ : List ℕ) (to n b w : ℕ) (v : ℕ → ℕ → ℕ) : Type 0 where
-  pub len : length s′ ≡ length s
-  pub rows : Stand s′ to n b w v
-  pub rest : (o : ℕ) → ((t x : ℕ) → t < n → x < w → o ≢ to + t * b + x) → getD s′ o 0 ≡ getD s o 0
-
--- the rows of a quotient, and p - 1 places for them in s
-pub record Finish-asked (s acc : List ℕ) (to p b j w : ℕ) : Type 0 where
-  pub modulus : Modulus p
-  pub shift : j < p
-  pub strip : b ≤ 512
-  pub fits : w ≤ b
-  pub lanes : w ≤ 128
-  pub inside : to + (p - 1) * b + w ≤ length s + b
-  pub room : p * w ≤ length acc
-
--- the rows of acc with `sum₀` added to each
-unfoldable pub with-sum : List ℕ → List ℕ → ℕ → ℕ → ℕ → ℕ → ℕ → ℕ
-with-sum acc sum₀ p w j t x = row-byte acc w ((t + j) % p) x ⊕ getD sum₀ x 0
-
--- ---- comparing
-
--- w bytes stand in s, those of acc with `sum₀` added
-pub record Row-stands (s acc sum₀ : List ℕ) (at row w : ℕ) : Type 0 where
-  pub bytes : (x : ℕ) → x < w → getD s (at + x) 0 ≡ getD acc (row + x) 0 ⊕ getD sum₀ x 0
-
--- r is 0 exactly where bad is 0 and R holds
-pub record Shows (bad r : ℕ) (R : Type 0) : Type 0 where
-  pub clean : bad ≡ 0 → R → r ≡ 0
-  pub told : r ≡ 0 → (bad ≡ 0) × R

@@ -1,13 +1,12 @@
 // Division by 1 + x^d in a walk over w lanes of a column: about two XORs a symbol.
 ghost use mathlib.Core.Path.{_≡_};
 ghost use Prim.Native.Nat.{_+_, _-_, _*_, _%_, _<_, _≤_};
-ghost use lib.ListN.{length, getD};
-ghost use Rattle.laws.specs.Xor.{_⊕_};
+ghost use lib.ListN.{length};
 ghost use Rattle.laws.specs.Patch.{Patched};
-ghost use Rattle.walk.specs.Lanes.{finished, with-sum, Step-asked, Stepped, Stepped-first, Walk-asked, Cleared, Walked, Sums, Columns-asked, Totalled, Total-asked, Row-put, Stand, Laid, Finish-asked, Row-stands, Shows};
+ghost use Rattle.walk.specs.Lanes.{Step-asked, Stepped, Stepped-first, Walk-asked, Cleared, Walked, Sums, Columns-asked};
 
 // The place d below f, of p places in a circle.
-fn next(f: usize, d: usize, p: usize) -> usize
+pub fn next(f: usize, d: usize, p: usize) -> usize
     requires { ⌜ (f < p) × (1 ≤ d) × (d < p) × (p ≤ 61) ⌝ }
     ensures { λ r. ⌜ r ≡ (f + (p - d)) % p ⌝ }
 {
@@ -118,132 +117,4 @@ pub fn columns(
         walk(s, from + i * c, p, b, d + i, w, acc);
         i += 1;
     }
-}
-
-// Adds w bytes of acc to the bytes of sum.
-fn add(sum: &mut [u8; 128], acc: &[u8], row: usize, w: usize)
-    requires { ⌜ (row + w ≤ length (now acc)) × (w ≤ 128) × (length (now sum) ≡ 128) ⌝ }
-    ensures { λ _. ⌜ Patched (now (sum .entry)) (now (sum .exit)) 0 w (λ x. getD (now (sum .entry)) x 0 ⊕ getD (now (acc .entry)) (row + x) 0) ⌝ }
-{
-    let mut x: usize = 0;
-    while x < w {
-        sum[x] = sum[x] ^ acc[row + x];
-        x += 1;
-    }
-}
-
-// Adds the p rows of acc to sum.
-fn total(sum: &mut [u8; 128], acc: &[u8], p: usize, w: usize)
-    requires { ⌜ Total-asked (now acc) (now sum) p w ⌝ }
-    ensures { λ _. ⌜ Totalled (now (acc .entry)) (now (sum .entry)) (now (sum .exit)) p w ⌝ }
-{
-    let mut t: usize = 0;
-    while t < p {
-        add(sum, acc, t * w, w);
-        t += 1;
-    }
-}
-
-// Puts w bytes of acc, with sum added, in s.
-fn put(s: &mut [u8], at: usize, acc: &[u8], row: usize, sum: &[u8; 128], w: usize)
-    requires { ⌜ (at + w ≤ length (now s)) × (row + w ≤ length (now acc)) × (w ≤ 128) × (length (now sum) ≡ 128) ⌝ }
-    ensures { λ _. ⌜ Row-put (now (s .entry)) (now (s .exit)) (now (acc .entry)) (now (sum .entry)) at row w ⌝ }
-{
-    let mut x: usize = 0;
-    while x < w {
-        s[at + x] = acc[row + x] ^ sum[x];
-        x += 1;
-    }
-}
-
-// Puts the rows of acc, from place j on and with sum added, in s.
-fn puts(
-    s: &mut [u8],
-    to: usize,
-    p: usize,
-    b: usize,
-    j: usize,
-    w: usize,
-    acc: &[u8],
-    sum: &[u8; 128],
-)
-    requires { ⌜ Finish-asked (now s) (now acc) to p b j w × (length (now sum) ≡ 128) ⌝ }
-    ensures { λ _. ⌜ Laid (now (s .entry)) (now (s .exit)) to (p - 1) b w (with-sum (now (acc .entry)) (now (sum .entry)) p w j) ⌝ }
-{
-    let mut f = j;
-    let mut t: usize = 0;
-    while t < p - 1 {
-        put(s, to + t * b, acc, f * w, sum, w);
-        f = next(f, p - 1, p);
-        t += 1;
-    }
-}
-
-// Puts the quotient that the walks found in s.
-pub fn finish(s: &mut [u8], to: usize, p: usize, b: usize, j: usize, w: usize, acc: &[u8])
-    requires { ⌜ Finish-asked (now s) (now acc) to p b j w ⌝ }
-    ensures { λ _. ⌜ Laid (now (s .entry)) (now (s .exit)) to (p - 1) b w (finished (now (acc .entry)) p w j) ⌝ }
-{
-    let mut sum = [0u8; 128];
-    total(&mut sum, acc, p, w);
-    puts(s, to, p, b, j, w, acc, &sum);
-}
-
-// 0 where bad is 0 and w bytes of s are those of acc with sum added.
-fn differ(bad: u8, s: &[u8], at: usize, acc: &[u8], row: usize, sum: &[u8; 128], w: usize) -> u8
-    requires { ⌜ (at + w ≤ length (now s)) × (row + w ≤ length (now acc)) × (w ≤ 128) × (length (now sum) ≡ 128) ⌝ }
-    ensures { λ r. ⌜ Shows bad r (Row-stands (now (s .entry)) (now (acc .entry)) (now (sum .entry)) at row w) ⌝ }
-{
-    let mut all = bad;
-    let mut x: usize = 0;
-    while x < w {
-        all = all | (s[at + x] ^ (acc[row + x] ^ sum[x]));
-        x += 1;
-    }
-    all
-}
-
-// 0 where bad is 0 and the rows stand in s.
-fn differs(
-    bad: u8,
-    s: &[u8],
-    to: usize,
-    p: usize,
-    b: usize,
-    j: usize,
-    w: usize,
-    acc: &[u8],
-    sum: &[u8; 128],
-) -> u8
-    requires { ⌜ Finish-asked (now s) (now acc) to p b j w × (length (now sum) ≡ 128) ⌝ }
-    ensures { λ r. ⌜ Shows bad r (Stand (now (s .entry)) to (p - 1) b w (with-sum (now (acc .entry)) (now (sum .entry)) p w j)) ⌝ }
-{
-    let mut all = bad;
-    let mut f = j;
-    let mut t: usize = 0;
-    while t < p - 1 {
-        all = differ(all, s, to + t * b, acc, f * w, sum, w);
-        f = next(f, p - 1, p);
-        t += 1;
-    }
-    all
-}
-
-// 0 where bad is 0 and the quotient that the walks found stands in s.
-pub fn compare(
-    bad: u8,
-    s: &[u8],
-    to: usize,
-    p: usize,
-    b: usize,
-    j: usize,
-    w: usize,
-    acc: &[u8],
-) -> u8
-    requires { ⌜ Finish-asked (now s) (now acc) to p b j w ⌝ }
-    ensures { λ r. ⌜ Shows bad r (Stand (now (s .entry)) to (p - 1) b w (finished (now (acc .entry)) p w j)) ⌝ }
-{
-    let mut sum = [0u8; 128];
-    total(&mut sum, acc, p, w);
-    differs(bad, s, to, p, b, j, w, acc, &sum)
 }

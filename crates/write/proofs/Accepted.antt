@@ -28,12 +28,12 @@ use Rattle.stripe.proofs.Places.{parity-end, strip-in, parity-in, revision-in, 
 use Rattle.stripe.specs.Layout.{data-count-at, revision-at, revisionOf, column-length, parity-byte, rows, parity-from, parity-strip-at, strip-at, data-byte}
 use Rattle.stripe.specs.Reading.{Image}
 use Rattle.stripe.specs.declared.Params.{Params}
-use Rattle.parity.specs.Touches.{touches}
-use Rattle.write.specs.Revision.{renewed, judged, distance}
+use Rattle.block.specs.Touches.{touches}
+use Rattle.revision.specs.Revision.{renewed, judged, distance}
 use Rattle.write.specs.Steps.{Kept}
 use Rattle.write.specs.Written.{moved, difference, written}
-use Rattle.write.specs.declared.Age.{Age}
-use Rattle.write.specs.declared.Age.the-variants.{Current, Older, Newer}
+use Rattle.revision.specs.declared.Age.{Age}
+use Rattle.revision.specs.declared.Age.the-variants.{Current, Older, Newer}
 
 put-patched : (s v : List ℕ) (at : ℕ) → at + length v ≤ length s → Patched s (put s at v) at (length v) (λ x. getD v x 0)
 put-patched s v at h = record { len = length-put s at v h; below = getD-put-before s at v h; inner = getD-put-in s at v h; above = getD-put-after s at v h }

@@ -14,14 +14,14 @@ use Rattle.algebra.specs.Divide.{quot, inv, evens, turn, gap}
 use Rattle.algebra.specs.Lane.{D, act}
 use Rattle.algebra.specs.Prime.{odd-prime}
 use Rattle.algebra.specs.Word.{overOf, timesOf, laneOf}
-use Rattle.refusal.specs.declared.Refusal.the-variants.{Stale, Ahead}
+use Rattle.refusal.specs.declared.Refusal.the-variants.{Stale}
 use Rattle.stripe.specs.Examples.{example-image}
 use Rattle.stripe.specs.Params.{checkedOf, admitted-prime, admitted-shape, admitted-strip}
 use Rattle.stripe.specs.Reading.{readOf, withParams, sectionsOf}
-use Rattle.parity.specs.Touches.{touches, touch-word, count}
-use Rattle.write.specs.Revision.{distance, judged, renewed}
+use Rattle.block.specs.Touches.{touches, touch-word, count}
+use Rattle.revision.specs.Revision.{distance, judged, renewed}
 use Rattle.write.specs.Written.{writeOf, write-read, write-sound, write-judged, written, moved, difference}
-use Rattle.write.specs.declared.Age.the-variants.{Current, Older, Newer}
+use Rattle.revision.specs.declared.Age.the-variants.{Older, Newer}
 use Rattle.write.specs.declared.Written.the-variants.{Accepted, Refused}
 
 -- "1 to 2^31 is STALE; above is AHEAD"

@@ -26,12 +26,12 @@ use Rattle.algebra.specs.Word.{inverseOf, timesOf, overOf, pred}
 use Rattle.stripe.proofs.Places.{parity-column-in, strip-in, parity-in, parity-end}
 use Rattle.stripe.specs.Layout.{column-length, parity-from, parity-at, rows, strip-at, revision-at}
 use Rattle.stripe.specs.declared.Params.{Params}
-use Rattle.parity.specs.Touches.{touch-word, touches, count}
+use Rattle.block.specs.Touches.{touch-word, touches, count}
 use Rattle.engine.specs.Strips.{Rows, Scattered, scattered}
-use Rattle.write.specs.Revision.{renewed}
+use Rattle.revision.specs.Revision.{renewed}
 use Rattle.write.specs.Steps.{Crossing, Strips, differed, Shifted, Target, shifted, Moved}
 use Rattle.write.specs.Written.{difference, moved, write-judged, written}
-use Rattle.write.specs.declared.Age.the-variants.{Current}
+use Rattle.revision.specs.declared.Age.the-variants.{Current}
 use Rattle.write.specs.declared.Written.the-variants.{Accepted}
 
 -- ---- the rows that a data strip touches

@@ -18,11 +18,11 @@ use Rattle.stripe.specs.Reading.{readOf, refusal-given}
 use Rattle.stripe.specs.declared.Params.{Params}
 use Rattle.stripe.specs.declared.Reading.{Reading}
 use Rattle.stripe.specs.declared.Reading.the-variants.{Stripe, Refused as Unread}
-use Rattle.write.specs.Revision.{judged}
+use Rattle.revision.specs.Revision.{judged}
 use Rattle.write.specs.Steps.{Target}
 use Rattle.write.specs.Written.{writeOf, write-read, write-sound, write-judged}
-use Rattle.write.specs.declared.Age.{Age}
-use Rattle.write.specs.declared.Age.the-variants.{Current, Older, Newer}
+use Rattle.revision.specs.declared.Age.{Age}
+use Rattle.revision.specs.declared.Age.the-variants.{Current, Older, Newer}
 use Rattle.write.specs.declared.Written.{Written}
 use Rattle.write.specs.declared.Written.the-variants.{Refused}
 

@@ -1,3 +1,2 @@
-pub mod Revision
 pub mod Written
 pub mod Steps

@@ -12,7 +12,7 @@ use Rattle.stripe.specs.declared.Params.{Params}
 use Rattle.stripe.specs.Layout.{rows, column-length, data-count-at, data-from, parity-count-at, parity-from}
 use Rattle.stripe.specs.Params.{Admitted}
 use Rattle.stripe.specs.Reading.{Image}
-use Rattle.parity.specs.Touches.{touch-word, touches, count}
+use Rattle.block.specs.Touches.{touch-word, touches, count}
 use Rattle.write.specs.declared.Written.{Written}
 use Rattle.write.specs.Written.{moved}
 

@@ -1,7 +1,6 @@
 -- "Revisions and writes": what a write answers, and the image that it leaves.
 -- Assumes nothing.
 use Prim.Native.Nat.{ℕ, _+_, _*_, _/_, _%_}
-use mathlib.Core.Path.{_≡_}
 use mathlib.Core.List.{List}
 use lib.ListN.{length, getD}
 use lib.Dec.{ltb, eqb}
@@ -19,12 +18,12 @@ use Rattle.stripe.specs.declared.Reading.{Reading}
 use Rattle.stripe.specs.declared.Reading.the-variants.{Stripe, Refused as Unread}
 use Rattle.stripe.specs.Layout.{rows, column-length, revision-at, strip-at, parity-from, revisionOf, data-byte}
 use Rattle.stripe.specs.Reading.{readOf}
-use Rattle.parity.specs.Touches.{touches, count}
-use Rattle.write.specs.declared.Age.{Age}
-use Rattle.write.specs.declared.Age.the-variants.{Current, Older, Newer}
+use Rattle.block.specs.Touches.{touches, count}
+use Rattle.revision.specs.declared.Age.{Age}
+use Rattle.revision.specs.declared.Age.the-variants.{Current, Older, Newer}
 use Rattle.write.specs.declared.Written.{Written}
 use Rattle.write.specs.declared.Written.the-variants.{Accepted, Refused}
-use Rattle.write.specs.Revision.{judged, renewed}
+use Rattle.revision.specs.Revision.{judged, renewed}
 
 -- byte x of the difference between strip (i, t) of s and the new strip v
 unfoldable pub difference : List ℕ → Params → ℕ → ℕ → List ℕ → ℕ → ℕ

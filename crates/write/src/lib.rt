@@ -1,60 +1,23 @@
 // A write to one data strip, against a revision of its column.
 use refusal::Refusal;
+use revision::Age;
 use stripe::Params;
 use stripe::Reading;
 ghost use mathlib.Core.Path.{_≡_};
-ghost use Prim.Native.Nat.{_+_, _<_, _≤_, _^_};
+ghost use Prim.Native.Nat.{_+_, _<_, _^_};
 ghost use lib.ListN.{length};
-ghost use Rattle.laws.specs.Part.{put, tab};
-ghost use Rattle.stripe.specs.Params.{Admitted};
-ghost use Rattle.stripe.specs.Layout.{rows, strip-at};
-ghost use Rattle.parity.specs.Touches.{touch-word};
-ghost use Rattle.write.specs.declared.Age.the-variants.{Current};
-ghost use Rattle.write.specs.Revision.{distance, judged, renewed};
+ghost use Rattle.laws.specs.Part.{tab};
+ghost use Rattle.stripe.specs.Layout.{rows};
+ghost use Rattle.block.specs.Touches.{touch-word};
+ghost use Rattle.revision.specs.declared.Age.the-variants.{Current};
 ghost use Rattle.write.specs.Written.{write-judged, writeOf};
 ghost use Rattle.laws.specs.Left.{Leaves};
 ghost use Rattle.write.specs.Steps.{Crossing, Target, Strips, differed, Shifted, Moved};
-
-// How old the base of a write is.
-pub enum Age {
-    Current,
-    Older,
-    Newer,
-}
 
 // The new revision and the count of parity strips added to, or the refusal.
 pub enum Written {
     Accepted(u32, u64),
     Refused(Refusal),
-}
-
-// How far a base lies behind a revision, on the circle of 32 bits.
-fn behind(n: u32, b: u32) -> u32
-    ensures { λ r. ⌜ r ≡ distance n b ⌝ }
-{
-    std::num::wrapping_sub_u32(n, b)
-}
-
-// How old a base is against a revision.
-pub fn judge(n: u32, b: u32) -> Age
-    ensures { λ r. ⌜ r ≡ judged n b ⌝ }
-{
-    let d = behind(n, b);
-    if d == 0 {
-        return Age::Current;
-    }
-    if d <= 2147483648 {
-        Age::Older
-    } else {
-        Age::Newer
-    }
-}
-
-// The revision that follows a base.
-fn renew(base: u32) -> u32
-    ensures { λ r. ⌜ r ≡ renewed base ⌝ }
-{
-    std::num::wrapping_add_u32(base, 1)
 }
 
 // The rows of parity column j that data strip (i, t) touches: (x^t + x^(p-1)) / (x^j + x^(r+i)).
@@ -133,7 +96,7 @@ fn accept(
 {
     let count = update_parity(image, q, column, row, strip);
     engine::copy_in(image, q.strip_at(column, row), strip);
-    let revision = renew(base);
+    let revision = revision::renew(base);
     stripe::put_u32(image, q.revision_at(column), revision);
     Written::Accepted(revision, count)
 }
@@ -156,7 +119,7 @@ pub fn write(image: &mut [u8], column: usize, row: usize, base: u32, strip: &[u8
         return Written::Refused(Refusal::Width);
     }
     let revision = stripe::u32_at(image, q.revision_at(column));
-    let age = judge(revision, base);
+    let age = revision::judge(revision, base);
     match age {
         Age::Current => accept(image, q, column, row, base, strip),
         Age::Older => Written::Refused(Refusal::Stale),

@@ -1,7 +1,7 @@
 -- `airsaffron::airsaffron_show` meets its contract.
 -- Assumes nothing.
 use borrow.Author.Needs.{needs}
-use Rattle.rebuild.proofs.Asking.{asked-low, asked-cell}
+use Rattle.pattern.proofs.Asking.{asked-low, asked-cell}
 use Rattle.airsaffron.proofs.Shows.{show-refused, show-lost, show-present}
 use Rattle.airsaffron.proofs.airsaffron_show.Statement.{statement}
 use Rattle.airsaffron.proofs.airsaffron_show.Tie as tie

@@ -4,10 +4,10 @@ use Prim.Native.Nat.{_-_}
 use mathlib.Core.Path.{_≡_, refl}
 use native.Mathlib.Omega.{arith}
 use lib.ListN.{length}
-use Rattle.walk.specs.Lanes.{Shows}
+use Rattle.quotient.specs.Lanes.{Shows}
 use Rattle.parity.proofs.Blocks.{shown-none, shown-more, flag-column, check-asked}
 use Rattle.parity.proofs.check_column.Statement.{statement}
-use Rattle.parity.specs.Inner.{Lanes-right}
+use Rattle.block.specs.Inner.{Lanes-right}
 use Rattle.parity.proofs.check_column.Tie as tie
 
 abbrev Inv-loop : tie.InvT-loop

@@ -1,7 +1,7 @@
 -- `rebuild::restore` meets its contract.
 -- Assumes nothing.
 use Rattle.rebuild.proofs.Answering.{restore-refused, restore-kept, restore-room, restore-asks, restore-done}
-use Rattle.rebuild.proofs.Asking.{asked-low}
+use Rattle.pattern.proofs.Asking.{asked-low}
 use borrow.Author.Needs.{needs}
 use Rattle.rebuild.proofs.restore.Statement.{statement}
 use Rattle.rebuild.proofs.restore.Tie as tie

@@ -1,7 +1,7 @@
 -- `rebuild::show` meets its contract.
 -- Assumes nothing.
 use Rattle.rebuild.proofs.Showing.{shown-refused, shown-refused-at, shown-lost, shown-lost-at, shown-end, shown-present, shown-present-at}
-use Rattle.rebuild.proofs.Asking.{asked-low, asked-cell, asked-space}
+use Rattle.pattern.proofs.Asking.{asked-low, asked-cell, asked-space}
 use borrow.Author.Needs.{needs}
 use Rattle.rebuild.proofs.show.Statement.{statement}
 use Rattle.rebuild.proofs.show.Tie as tie

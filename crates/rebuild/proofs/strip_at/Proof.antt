@@ -1,6 +1,6 @@
 -- `rebuild::strip_at` meets its contract.
 -- Assumes nothing.
-use Rattle.rebuild.proofs.Asking.{data-place, parity-place}
+use Rattle.rebuild.proofs.Showing.{data-place, parity-place}
 use borrow.Author.Needs.{needs}
 use Rattle.rebuild.proofs.strip_at.Statement.{statement}
 use Rattle.rebuild.proofs.strip_at.Tie as tie

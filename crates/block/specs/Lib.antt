@@ -1,0 +1,3 @@
+pub mod Parity
+pub mod Touches
+pub mod Inner

@@ -1,0 +1,4 @@
+pub mod Marks
+pub mod Count
+pub mod Asking
+pub mod Collecting

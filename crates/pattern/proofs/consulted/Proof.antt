@@ -1,0 +1,18 @@
+-- `pattern::consulted` meets its contract.
+-- Assumes nothing.
+use Rattle.pattern.proofs.Collecting.{consulted-collected}
+use borrow.Author.Needs.{needs}
+use Rattle.pattern.proofs.consulted.Statement.{statement}
+use Rattle.pattern.proofs.consulted.Tie as tie
+
+shr-collect : tie.Need-shr-collect
+shr-collect c = search needs
+
+collect-requires : tie.Need-collect-requires
+collect-requires c κs = search needs
+
+returns : tie.Need-returns
+returns c = search consulted-collected
+
+pub consulted-spec : {M : Type 1} → statement M
+consulted-spec = tie.close (tie.spec shr-collect collect-requires returns)

@@ -1,0 +1,2 @@
+pub mod Pattern
+pub mod Inner

@@ -1,0 +1,150 @@
+// The pattern of lost columns: what it names, what is refused for it, and the columns that lost ones are found from.
+use refusal::Refusal;
+use stripe::Params;
+use stripe::Reading;
+ghost use mathlib.Core.Path.{_≡_};
+ghost use Prim.Native.Nat.{_+_, _<_, _≤_};
+ghost use mathlib.Core.Bool.{_&&_};
+ghost use lib.Dec.{ltb, eqb};
+ghost use lib.ListN.{length};
+ghost use Rattle.laws.specs.Choose.{choose};
+ghost use Rattle.laws.specs.Bit.{bit, weight};
+ghost use Rattle.stripe.specs.Params.{Admitted};
+ghost use Rattle.stripe.specs.declared.Reading.the-variants.{Stripe};
+ghost use Rattle.pattern.specs.Pattern.{is-lost, lost-exponents, present-exponents, consulted, pattern-fits, few-lost, asked-read, asked};
+ghost use Rattle.pattern.specs.Inner.{named, Begins};
+
+// Whether the pattern names column n.
+pub fn is_lost(lost: u64, n: usize) -> bool
+    requires { ⌜ n < 64 ⌝ }
+    ensures { λ x. ⌜ x ≡ is-lost lost n ⌝ }
+{
+    (lost >> n) % 2 == 1
+}
+
+// How many of the columns below n the pattern names.
+pub fn lost_below(lost: u64, n: usize) -> usize
+    requires { ⌜ n ≤ 64 ⌝ }
+    ensures { λ x. ⌜ (x ≡ weight lost n) × (x ≤ n) ⌝ }
+{
+    let mut sum: usize = 0;
+    let mut i: usize = 0;
+    while i < n {
+        sum += ((lost >> i) % 2) as usize;
+        i += 1;
+    }
+    sum
+}
+
+// Whether the pattern names columns of the stripe alone.
+pub fn fits(q: Params, lost: u64) -> bool
+    requires { ⌜ Admitted q ⌝ }
+    ensures { λ x. ⌜ x ≡ pattern-fits q lost ⌝ }
+{
+    lost >> (q.k + q.r) == 0
+}
+
+// Whether the column too is one of the stripe.
+fn is_within(q: Params, lost: u64, column: usize) -> bool
+    requires { ⌜ Admitted q ⌝ }
+    ensures { λ x. ⌜ x ≡ (pattern-fits q lost && ltb column (q .k + q .r)) ⌝ }
+{
+    if !fits(q, lost) {
+        return false;
+    }
+    column < q.k + q.r
+}
+
+// Whether no more columns are lost than there are parity columns.
+pub fn is_few(q: Params, lost: u64) -> bool
+    requires { ⌜ Admitted q ⌝ }
+    ensures { λ x. ⌜ x ≡ few-lost q lost ⌝ }
+{
+    lost_below(lost, q.k + q.r) <= q.r
+}
+
+// The parameters where strip (column, row) may be asked for with a scratch of `room` bytes, or the refusal that is due.
+fn ask_within(q: Params, lost: u64, column: usize, row: usize, room: usize) -> Reading
+    requires { ⌜ Admitted q ⌝ }
+    ensures { λ x. ⌜ x ≡ asked-read lost column row room (Stripe q) ⌝ }
+{
+    if !is_within(q, lost, column) {
+        return Reading::Refused(Refusal::Column);
+    }
+    if row >= q.p - 1 {
+        return Reading::Refused(Refusal::Row);
+    }
+    if !is_few(q, lost) {
+        return Reading::Refused(Refusal::Many);
+    }
+    if room < q.b {
+        return Reading::Refused(Refusal::Room);
+    }
+    Reading::Stripe(q)
+}
+
+// The same of an image that is read first.
+pub fn ask(image: &[u8], lost: u64, column: usize, row: usize, room: usize) -> Reading
+    ensures { λ x. ⌜ x ≡ asked (now (image .entry)) lost column row room ⌝ }
+{
+    let reading = stripe::read(image);
+    let Reading::Stripe(q) = reading else {
+        return reading;
+    };
+    ask_within(q, lost, column, row, room)
+}
+
+// Room for the exponents of a stripe's data columns, or of its parity columns.
+pub fn no_exponents() -> [usize; 60]
+    ensures { λ x. ⌜ length x ≡ 60 ⌝ }
+{
+    [0usize; 60]
+}
+
+// 1 where bit i of the pattern is `want`, else 0.
+fn wanted(pattern: u64, i: usize, want: u64) -> usize
+    requires { ⌜ i < 64 ⌝ }
+    ensures { λ x. ⌜ (x ≡ choose (eqb (bit pattern i) want) 1 0) × (x ≤ 1) ⌝ }
+{
+    if (pattern >> i) % 2 == want { 1 } else { 0 }
+}
+
+// The numbers base + i, in rising order, of the i below n whose bit in the pattern is `want`.
+fn collect(pattern: u64, n: usize, base: usize, want: u64) -> [usize; 60]
+    requires { ⌜ (n ≤ 60) × (base ≤ 60) ⌝ }
+    ensures { λ x. ⌜ Begins (named pattern want base n) x ⌝ }
+{
+    let mut out = no_exponents();
+    let mut c: usize = 0;
+    let mut i: usize = 0;
+    while i < n {
+        out[c] = base + i;
+        c += wanted(pattern, i, want);
+        i += 1;
+    }
+    out
+}
+
+// The exponents of the lost data columns.
+pub fn lost_data(q: Params, lost: u64) -> [usize; 60]
+    requires { ⌜ Admitted q ⌝ }
+    ensures { λ x. ⌜ Begins (lost-exponents q lost) x ⌝ }
+{
+    collect(lost, q.k, q.r, 1)
+}
+
+// The exponents of the present data columns.
+pub fn present_data(q: Params, lost: u64) -> [usize; 60]
+    requires { ⌜ Admitted q ⌝ }
+    ensures { λ x. ⌜ Begins (present-exponents q lost) x ⌝ }
+{
+    collect(lost, q.k, q.r, 0)
+}
+
+// The consulted parity columns: the lowest-numbered present ones, as many as data columns are lost.
+pub fn consulted(q: Params, lost: u64) -> [usize; 60]
+    requires { ⌜ Admitted q ⌝ }
+    ensures { λ x. ⌜ Begins (consulted q lost) x ⌝ }
+{
+    collect(lost >> q.k, q.r, 0, 0)
+}
