@@ -11,8 +11,8 @@ use Rattle.stripe.specs.declared.Reading.the-variants.{Stripe, Refused as Unrea
 use Rattle.stripe.specs.Reading.{readOf, reading-values, refusal-given}
 use Rattle.ring.specs.declared.Element.{Element}
 use Rattle.ring.specs.declared.Element.the-variants.{Word, Refused as NoElement}
-use Rattle.parity.specs.declared.Outcome.{Outcome}
-use Rattle.parity.specs.declared.Outcome.the-variants.{Done, Refused as NoOutcome}
+use Rattle.refusal.specs.declared.Outcome.{Outcome}
+use Rattle.refusal.specs.declared.Outcome.the-variants.{Done, Refused as NoOutcome}
 use Rattle.parity.specs.declared.Checkup.{Checkup}
 use Rattle.parity.specs.declared.Checkup.the-variants.{Wrong, Refused as Unchecked}
 use Rattle.write.specs.declared.Written.{Written}

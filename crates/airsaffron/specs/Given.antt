@@ -10,7 +10,7 @@ use Rattle.stripe.specs.declared.Reading.the-variants.{Stripe, Refused as Unrea
 use Rattle.stripe.specs.Reading.{reading-number, reading-values}
 use Rattle.ring.specs.declared.Element.{Element}
 use Rattle.ring.specs.Answer.{element-number, element-value}
-use Rattle.parity.specs.declared.Outcome.{Outcome}
+use Rattle.refusal.specs.declared.Outcome.{Outcome}
 use Rattle.parity.specs.declared.Checkup.{Checkup}
 use Rattle.parity.specs.Answer.{outcome-number, checkup-number, checkup-value}
 use Rattle.write.specs.declared.Written.{Written}

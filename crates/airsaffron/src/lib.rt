@@ -1,6 +1,6 @@
 // The calls for C: each hands on what the call behind it answers, as three numbers. Nothing is asked of the caller.
 use parity::Checkup;
-use parity::Outcome;
+use refusal::Outcome;
 use refusal::Refusal;
 use ring::Element;
 use stripe::Params;

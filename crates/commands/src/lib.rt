@@ -3,7 +3,7 @@
 use answers::Answer;
 use files::Taken;
 use parity::Checkup;
-use parity::Outcome;
+use refusal::Outcome;
 use stripe::Checked;
 use stripe::Params;
 use stripe::Reading;

@@ -1,12 +1,16 @@
 // Each call of the library beside the same call of the second implementation: answers and every lent byte are compared.
+use drawing::fill;
 use parity::Checkup;
-use parity::Outcome;
+use refusal::Outcome;
 use ring::Element;
 use second::Answer;
 use second::Shape;
 use second::answered;
+use second::column_size;
 use total::add;
 use total::one_at;
+use total::part;
+use total::times;
 use total::unlike;
 use write::Written;
 
@@ -114,6 +118,20 @@ pub fn make(t: Tally, q: Shape, given: &[u8], one: &mut [u8], two: &mut [u8]) ->
     let a = of_outcome(parity::make(q.p, q.k, q.r, q.b, given, one));
     let b = second::make(q.p, q.k, q.r, q.b, given, two, q.slip);
     noted(t, add(apart(a, b), slices_apart(one, two)), a)
+}
+
+// Makes both images from drawn data.
+pub fn make_drawn(
+    t: Tally,
+    q: Shape,
+    c: usize,
+    one: &mut [u8],
+    two: &mut [u8],
+    room: &mut [u8],
+) -> Tally {
+    let n = times(q.k, column_size(q));
+    fill(room, 0, n, c);
+    make(t, q, part(room, 0, n), one, two)
 }
 
 // Refill.

@@ -1,6 +1,7 @@
 // Histories of writes, each in two arrangements: both implementations, and the library with itself.
 use comparing::Tally;
 use comparing::answers_apart;
+use comparing::make_drawn;
 use comparing::noted;
 use comparing::of_written;
 use comparing::slices_apart;
@@ -10,7 +11,6 @@ use drawing::start_of;
 use second::Answer;
 use second::Shape;
 use second::answered;
-use second::column_size;
 use total::add;
 use total::copy;
 use total::over;
@@ -23,20 +23,6 @@ use total::word;
 
 // How many writes a history has.
 const WRITES: usize = 12;
-
-// Makes both images from drawn data.
-pub fn make_drawn(
-    t: Tally,
-    q: Shape,
-    c: usize,
-    one: &mut [u8],
-    two: &mut [u8],
-    room: &mut [u8],
-) -> Tally {
-    let n = times(q.k, column_size(q));
-    fill(room, 0, n, c);
-    comparing::make(t, q, part(room, 0, n), one, two)
-}
 
 // Sets the revisions of n columns to those of the start.
 fn start(image: &mut [u8], c: usize, n: usize) {

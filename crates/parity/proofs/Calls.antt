@@ -27,8 +27,8 @@ use Rattle.parity.specs.Inner.{Begun, head, Room}
 use Rattle.parity.specs.Make.{made}
 use Rattle.block.specs.Parity.{refilled}
 use Rattle.parity.specs.declared.Checkup.the-variants.{Wrong, Refused as Unchecked}
-use Rattle.parity.specs.declared.Outcome.{Outcome}
-use Rattle.parity.specs.declared.Outcome.the-variants.{Done, Refused}
+use Rattle.refusal.specs.declared.Outcome.{Outcome}
+use Rattle.refusal.specs.declared.Outcome.the-variants.{Done, Refused}
 
 -- ---- after reading: v is what the reading gave
 

@@ -20,8 +20,8 @@ use Rattle.stripe.specs.declared.Reading.the-variants.{Stripe, Refused as Unrea
 use Rattle.stripe.specs.Params.{checkedOf}
 use Rattle.stripe.specs.Layout.{column-length, image-length, parity-at, data-byte}
 use Rattle.stripe.specs.Reading.{readOf}
-use Rattle.parity.specs.declared.Outcome.{Outcome}
-use Rattle.parity.specs.declared.Outcome.the-variants.{Done, Refused}
+use Rattle.refusal.specs.declared.Outcome.{Outcome}
+use Rattle.refusal.specs.declared.Outcome.the-variants.{Done, Refused}
 use Rattle.parity.specs.declared.Checkup.{Checkup}
 use Rattle.parity.specs.declared.Checkup.the-variants.{Wrong, Refused as Unchecked}
 use Rattle.block.specs.Parity.{due, refilled}

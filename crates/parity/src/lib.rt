@@ -1,4 +1,5 @@
 // Parity from data: make, refill and check.
+use refusal::Outcome;
 use refusal::Refusal;
 use stripe::Checked;
 use stripe::Params;
@@ -15,12 +16,6 @@ ghost use Rattle.block.specs.Parity.{refilled};
 ghost use Rattle.parity.specs.Make.{sixteen, made};
 ghost use Rattle.parity.specs.Answer.{make-sound, makeOf, refillOf, wrong-parities, checkOf};
 ghost use Rattle.parity.specs.Inner.{wrong-bit, Column-asked, Starts, Column-filled, Written, three, Room, Begun, opening, head};
-
-// Done, or the refusal.
-pub enum Outcome {
-    Done,
-    Refused(Refusal),
-}
 
 // The word of wrong parities, or the refusal.
 pub enum Checkup {

@@ -20,7 +20,7 @@ use Rattle.stripe.specs.Reading.{Image}
 use Rattle.stripe.specs.declared.Params.{Params}
 use Rattle.block.proofs.Touching.{due-agree}
 use Rattle.block.specs.Parity.{due, Right}
-use Rattle.parity.specs.declared.Outcome.the-variants.{Done, Refused}
+use Rattle.refusal.specs.declared.Outcome.the-variants.{Done, Refused}
 use Rattle.rebuild.proofs.Cells.{is-rebuilt, rebuilt-length, rebuilt-front, rebuilt-count}
 use Rattle.pattern.proofs.Count.{length-consulted, rising-at, consulted-rising, weight-none, weight-mark, is-few}
 use Rattle.rebuild.proofs.Independent.{rebuilt-agrees, agrees-image}

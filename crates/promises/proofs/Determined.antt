@@ -14,7 +14,7 @@ use Rattle.ring.specs.Answer.{product-answer, divide-answer}
 use Rattle.ring.specs.declared.Element.{Element}
 use Rattle.parity.specs.Answer.{checkOf, makeOf, refillOf}
 use Rattle.parity.specs.declared.Checkup.{Checkup}
-use Rattle.parity.specs.declared.Outcome.{Outcome}
+use Rattle.refusal.specs.declared.Outcome.{Outcome}
 use Rattle.write.specs.Written.{writeOf}
 use Rattle.write.specs.declared.Written.{Written}
 use Rattle.rebuild.specs.Answer.{rebuildOf, restoreOf, shown, shown-at, show-number}

@@ -22,7 +22,7 @@ use Rattle.stripe.specs.Reading.{Image}
 use Rattle.stripe.specs.declared.Params.{Params}
 use Rattle.stripe.specs.declared.Reading.{Reading}
 use Rattle.stripe.specs.declared.Reading.the-variants.{Stripe, Refused as Unread}
-use Rattle.parity.specs.declared.Outcome.the-variants.{Refused}
+use Rattle.refusal.specs.declared.Outcome.the-variants.{Refused}
 use Rattle.rebuild.proofs.Cells.{rebuilt-data, rebuilt-parity, rebuilt-length}
 use Rattle.rebuild.proofs.Whole.{whole-data-present, whole-parity-present}
 use Rattle.rebuild.specs.Answer.{column-strip-at, shown, shown-asked, restoreOf, restore-asked, rebuildOf, rebuild-read}

@@ -28,7 +28,7 @@ use Rattle.block.specs.Touches.{touches, touch-word, count}
 use Rattle.write.proofs.Examples.{ninth, tenth}
 use Rattle.revision.specs.Revision.{judged, distance, renewed}
 use Rattle.write.specs.Written.{writeOf, write-read, write-sound, write-judged, written, moved, difference}
-use Rattle.parity.specs.declared.Outcome.{Outcome}
+use Rattle.refusal.specs.declared.Outcome.{Outcome}
 use Rattle.write.specs.declared.Written.{Written}
 use Rattle.write.specs.declared.Written.the-variants.{Accepted, Refused}
 use Rattle.rebuild.specs.Answer.{rebuildOf, rebuild-read}

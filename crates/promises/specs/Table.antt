@@ -10,7 +10,7 @@ use Rattle.laws.specs.Number.{put32}
 use Rattle.algebra.specs.Word.{one}
 use Rattle.ring.specs.Answer.{divide-answer, element-value}
 use Rattle.stripe.specs.Examples.{example-image}
-use Rattle.parity.specs.declared.Outcome.{Outcome}
+use Rattle.refusal.specs.declared.Outcome.{Outcome}
 use Rattle.parity.specs.Answer.{makeOf, checkOf, outcome-number, checkup-number, checkup-value}
 use Rattle.write.specs.Written.{writeOf, written-number, written-revision, written-count}
 use Rattle.rebuild.specs.Answer.{rebuildOf}

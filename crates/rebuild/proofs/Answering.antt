@@ -20,8 +20,8 @@ use Rattle.refusal.specs.declared.Refusal.the-variants.{Column, Many}
 use Rattle.stripe.specs.declared.Params.{Params}
 use Rattle.stripe.specs.declared.Reading.{Reading}
 use Rattle.stripe.specs.declared.Reading.the-variants.{Stripe, Refused as Unread}
-use Rattle.parity.specs.declared.Outcome.{Outcome}
-use Rattle.parity.specs.declared.Outcome.the-variants.{Done, Refused}
+use Rattle.refusal.specs.declared.Outcome.{Outcome}
+use Rattle.refusal.specs.declared.Outcome.the-variants.{Done, Refused}
 use Rattle.pattern.proofs.Asking.{asked-sound}
 use Rattle.rebuild.proofs.Filling.{places-lent}
 use Rattle.rebuild.specs.Answer.{rebuild-read, rebuildOf, restore-asked, restoreOf}

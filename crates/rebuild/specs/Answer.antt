@@ -13,8 +13,8 @@ use Rattle.stripe.specs.declared.Reading.{Reading}
 use Rattle.stripe.specs.declared.Reading.the-variants.{Stripe, Refused as Unread}
 use Rattle.stripe.specs.Layout.{strip-at, parity-strip-at}
 use Rattle.stripe.specs.Reading.{readOf, reading-number}
-use Rattle.parity.specs.declared.Outcome.{Outcome}
-use Rattle.parity.specs.declared.Outcome.the-variants.{Done, Refused}
+use Rattle.refusal.specs.declared.Outcome.{Outcome}
+use Rattle.refusal.specs.declared.Outcome.the-variants.{Done, Refused}
 use Rattle.rebuild.specs.Lost.{whole-byte, rebuilt}
 use Rattle.pattern.specs.Pattern.{is-lost, pattern-fits, few-lost, asked}
 

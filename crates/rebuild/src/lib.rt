@@ -1,5 +1,5 @@
 // Lost columns: rebuild, restore one strip, show.
-use parity::Outcome;
+use refusal::Outcome;
 use refusal::Refusal;
 use stripe::Params;
 use stripe::Reading;

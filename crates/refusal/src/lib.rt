@@ -21,6 +21,12 @@ pub enum Refusal {
     Element,
 }
 
+// Done, or the refusal.
+pub enum Outcome {
+    Done,
+    Refused(Refusal),
+}
+
 impl Refusal {
     // The number that document 01 gives the refusal.
     pub fn number(self) -> u64

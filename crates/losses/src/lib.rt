@@ -1,0 +1,111 @@
+// Lost columns: restore, show and rebuild, by both implementations.
+use comparing::Tally;
+use comparing::make_drawn;
+use comparing::noted;
+use comparing::slices_apart;
+use drawing::below;
+use drawing::fill;
+use drawing::seldom;
+use second::Shape;
+use second::column_at;
+use second::column_size;
+use second::rows;
+use total::add;
+use total::bit;
+use total::less;
+use total::ones;
+use total::part;
+use total::times;
+
+// Puts drawn bytes into column n where a pattern has it.
+fn spoil_column(image: &mut [u8], q: Shape, lost: u64, n: usize, c: usize) {
+    if bit(lost, n) {
+        fill(image, column_at(q, n), column_size(q), add(c, n));
+    }
+}
+
+// Puts drawn bytes into those of the first n columns that a pattern has.
+fn spoil_lost(image: &mut [u8], q: Shape, lost: u64, n: usize, c: usize) {
+    for i in 0..n {
+        spoil_column(image, q, lost, i, c);
+    }
+}
+
+// Restore and show of a drawn strip, mostly sound.
+pub fn try_strip(t: Tally, q: Shape, c: usize, lost: u64, image: &[u8], room: &mut [u8]) -> Tally {
+    let high = if seldom(c, 50, 8) { 1 } else { 0 };
+    let low = if seldom(c, 51, 8) { 1 } else { 0 };
+    let column = below(c, 52, add(add(q.k, q.r), high));
+    let row = below(c, 53, add(rows(q), low));
+    let n = if seldom(c, 54, 8) {
+        less(q.b, 1)
+    } else {
+        add(q.b, below(c, 55, 3))
+    };
+    let restored = comparing::restore(t, image, lost, column, row, n, room, q.slip);
+    comparing::show(restored, image, lost, column, row, part(room, 0, n))
+}
+
+// Whether a rebuilt image is the one that was made, where its pattern is sound.
+fn try_back(
+    t: Tally,
+    q: Shape,
+    c: usize,
+    lost: u64,
+    one: &[u8],
+    two: &mut [u8],
+    room: &mut [u8],
+) -> Tally {
+    if ones(lost) > q.r || bit(lost, add(q.k, q.r)) {
+        return t;
+    }
+    let n = times(q.k, column_size(q));
+    fill(room, 0, n, c);
+    let a = comparing::of_outcome(parity::make(q.p, q.k, q.r, q.b, part(room, 0, n), two));
+    noted(t, slices_apart(one, two), a)
+}
+
+// Makes both images and puts drawn bytes into their lost columns.
+fn make_spoiled(
+    t: Tally,
+    q: Shape,
+    c: usize,
+    lost: u64,
+    one: &mut [u8],
+    two: &mut [u8],
+    room: &mut [u8],
+) -> Tally {
+    let made = make_drawn(t, q, c, one, two, room);
+    spoil_lost(one, q, lost, add(q.k, q.r), c);
+    spoil_lost(two, q, lost, add(q.k, q.r), c);
+    made
+}
+
+// Rebuild, and the image that was made.
+fn try_rebuild(
+    t: Tally,
+    q: Shape,
+    c: usize,
+    lost: u64,
+    one: &mut [u8],
+    two: &mut [u8],
+    room: &mut [u8],
+) -> Tally {
+    let rebuilt = comparing::rebuild(t, one, two, lost, q.slip);
+    try_back(rebuilt, q, c, lost, one, two, room)
+}
+
+// Lost columns: restore, show, rebuild.
+pub fn try_lost(
+    t: Tally,
+    q: Shape,
+    c: usize,
+    lost: u64,
+    one: &mut [u8],
+    two: &mut [u8],
+    room: &mut [u8],
+) -> Tally {
+    let made = make_spoiled(t, q, c, lost, one, two, room);
+    let shown = try_strip(made, q, c, lost, one, room);
+    try_rebuild(shown, q, c, lost, one, two, room)
+}
