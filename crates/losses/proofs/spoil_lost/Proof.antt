@@ -1,0 +1,49 @@
+-- `losses::spoil_lost` is safe and ends.
+-- Assumes nothing.
+use Prim.Native.Nat.{_-_, _≤_}
+use mathlib.Core.Path.{_≡_}
+use lib.ListN.{length}
+use borrow.Author.Needs.{needs}
+use Rattle.losses.proofs.spoil_lost.Statement.{statement}
+use Rattle.losses.proofs.spoil_lost.Tie as tie
+
+abbrev Inv-loop : tie.InvT-loop
+Inv-loop image₀ q lost n c i₀ image i = (i ≤ n) × (length image ≡ length image₀)
+
+abbrev μ-loop : tie.MeasureT-loop
+μ-loop image₀ q lost n c i₀ image i = n - i
+
+loop-holds : tie.Need-loop-holds Inv-loop μ-loop
+loop-holds c = search needs
+
+spoil-column-requires : tie.Need-spoil-column-requires Inv-loop μ-loop
+spoil-column-requires c κs = search needs
+
+add-i : tie.Need-add-i Inv-loop μ-loop
+add-i c = search needs
+
+loop-less : tie.Need-loop-less Inv-loop μ-loop
+loop-less c = search needs
+
+loop-again : tie.Need-loop-again Inv-loop μ-loop
+loop-again c = search needs
+
+same-length : tie.Need-same-length Inv-loop μ-loop
+same-length c = search needs
+
+returns : tie.Need-returns Inv-loop μ-loop
+returns c = search needs
+
+pub spoil-lost-spec : {M : Type 1} → statement M
+spoil-lost-spec =
+    tie.close
+    (tie.spec
+    Inv-loop
+    μ-loop
+    loop-holds
+    spoil-column-requires
+    add-i
+    loop-less
+    loop-again
+    same-length
+    returns)
