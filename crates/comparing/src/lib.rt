@@ -3,10 +3,10 @@ use drawing::fill;
 use parity::Checkup;
 use refusal::Outcome;
 use ring::Element;
-use second::Answer;
-use second::Shape;
-use second::answered;
-use second::column_size;
+use second_ground::Answer;
+use second_ground::Shape;
+use second_ground::answered;
+use second_ground::column_size;
 use total::add;
 use total::one_at;
 use total::part;
@@ -102,14 +102,14 @@ pub fn of_outcome(o: Outcome) -> u64 {
 // The product of two words.
 pub fn product(t: Tally, p: usize, u: u64, v: u64) -> Tally {
     let a = of_element(ring::product(p, u, v));
-    let b = second::product(p, u, v);
+    let b = second_ground::product(p, u, v);
     noted(t, answers_apart(a, b), a.refusal)
 }
 
 // The division of a word.
 pub fn divide(t: Tally, p: usize, s: u64, a: usize, b: usize, slip: u64) -> Tally {
     let one = of_element(ring::divide(p, s, a, b));
-    let two = second::divide(p, s, a, b, slip);
+    let two = second_ground::divide(p, s, a, b, slip);
     noted(t, answers_apart(one, two), one.refusal)
 }
 

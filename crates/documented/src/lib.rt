@@ -6,7 +6,7 @@ use comparing::noted;
 use comparing::of_outcome;
 use comparing::of_written;
 use comparing::slices_apart;
-use second::shaped;
+use second_ground::shaped;
 use stripe::Checked;
 use stripe::Params;
 use stripe::Reading;
@@ -77,7 +77,7 @@ fn limit(t: Tally, p: usize, k: usize, r: usize, b: usize, number: u64) -> Tally
 
 // An image and its refusal.
 fn reading(t: Tally, image: &[u8], number: u64) -> Tally {
-    let q = second::read(image, 0);
+    let q = second_ground::read(image, 0);
     due(t, of_reading(stripe::read(image)), q.refusal, number)
 }
 

@@ -1,8 +1,8 @@
 // Numbers, shapes, writes and patterns drawn from the number of a case, so that each run has the same ones.
-use second::Shape;
-use second::length;
-use second::rows;
-use second::shaped;
+use second_ground::Shape;
+use second_ground::length;
+use second_ground::rows;
+use second_ground::shaped;
 use total::add;
 use total::less;
 use total::low_byte;

@@ -83,10 +83,10 @@ fn tell_refusals(seen: u64, n: usize) {
 // The name of a slip.
 fn say_slip(slip: u64) {
     match slip {
-        second::ZEROED => say(b"planted slip, zeroed form"),
-        second::FORGOTTEN => say(b"planted slip, coefficient p-1 forgotten"),
-        second::EXPONENTS => say(b"planted slip, exponents i and k+j"),
-        second::PLAIN => say(b"planted slip, revisions by plain size"),
+        second_ground::ZEROED => say(b"planted slip, zeroed form"),
+        second_ground::FORGOTTEN => say(b"planted slip, coefficient p-1 forgotten"),
+        second_ground::EXPONENTS => say(b"planted slip, exponents i and k+j"),
+        second_ground::PLAIN => say(b"planted slip, revisions by plain size"),
         _ => say(b"planted slip, lost bytes read"),
     }
 }

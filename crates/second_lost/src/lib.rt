@@ -1,18 +1,18 @@
 // The second implementation's rebuild, restore and show: lost columns come by elimination on bits.
 use refusal::Refusal;
-use second::READ;
-use second::Shape;
 use second::add_bytes;
 use second::add_columns;
 use second::all_columns;
-use second::column_at;
-use second::column_size;
-use second::read;
-use second::rows;
 use second::set_parity;
-use second::strip_at;
-use second::touched;
-use second::unshaped;
+use second_ground::READ;
+use second_ground::Shape;
+use second_ground::column_at;
+use second_ground::column_size;
+use second_ground::read;
+use second_ground::rows;
+use second_ground::strip_at;
+use second_ground::touched;
+use second_ground::unshaped;
 use total::add;
 use total::bit;
 use total::copy;

@@ -1,6 +1,6 @@
 // The second implementation's report.
 use refusal::Refusal;
-use second::Shape;
+use second_ground::Shape;
 use total::add;
 use total::bit;
 use total::number32;
@@ -54,7 +54,7 @@ fn parity_lines(wrong: u64, n: usize) {
 
 // The report of an image, with lent room as long.
 fn describe(image: &[u8], room: &mut [u8]) {
-    let q = second::read(image, 0);
+    let q = second_ground::read(image, 0);
     if q.refusal != 0 {
         refused(q.refusal);
         return;

@@ -1,9 +1,9 @@
--- `second::chained` is safe and ends.
+-- `second_ground::chained` is safe and ends.
 -- Assumes nothing.
 use Prim.Native.Nat.{_-_, _≤_}
 use borrow.Author.Needs.{needs}
-use Rattle.second.proofs.chained.Statement.{statement}
-use Rattle.second.proofs.chained.Tie as tie
+use Rattle.second_ground.proofs.chained.Statement.{statement}
+use Rattle.second_ground.proofs.chained.Tie as tie
 
 abbrev Inv-loop : tie.InvT-loop
 Inv-loop p s a b step c₀ m₀ n₀ c m n = n ≤ p

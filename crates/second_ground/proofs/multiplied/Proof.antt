@@ -1,9 +1,9 @@
--- `second::multiplied` is safe and ends.
+-- `second_ground::multiplied` is safe and ends.
 -- Assumes nothing.
 use Prim.Native.Nat.{_-_, _≤_}
 use borrow.Author.Needs.{needs}
-use Rattle.second.proofs.multiplied.Statement.{statement}
-use Rattle.second.proofs.multiplied.Tie as tie
+use Rattle.second_ground.proofs.multiplied.Statement.{statement}
+use Rattle.second_ground.proofs.multiplied.Tie as tie
 
 abbrev Inv-loop : tie.InvT-loop
 Inv-loop p u v sum₀ i₀ sum i = i ≤ p
