@@ -48,7 +48,7 @@ fn mixed(x: u64) -> u64 {
 }
 
 // A word drawn for a case and a purpose, which is a number of its own for each thing drawn.
-pub fn drawn(c: usize, what: usize) -> u64 {
+fn drawn(c: usize, what: usize) -> u64 {
     let purpose = mixed(std::num::wrapping_add_u64(what as u64, 0x2545f4914f6cdd1d));
     mixed(mixed(std::num::wrapping_add_u64(purpose, c as u64)))
 }

@@ -49,7 +49,7 @@ pub fn answered(refusal: u64, first: u64, second: u64) -> Answer {
 }
 
 // The answer of a refusal.
-pub fn refused(e: Refusal) -> Answer {
+fn refused(e: Refusal) -> Answer {
     answered(e.number(), 0, 0)
 }
 

@@ -90,7 +90,7 @@ pub fn ones(w: u64) -> usize {
 }
 
 // The lowest set bit of a word.
-pub fn lowest(w: u64) -> usize {
+fn lowest(w: u64) -> usize {
     widened(u64::trailing_zeros(w))
 }
 
