@@ -1,3 +1,4 @@
+pub mod Empty
 pub mod Laws
 pub mod Ways
 pub mod Accepted

@@ -12,23 +12,42 @@ use Rattle.refusal.specs.declared.Refusal.{Refusal}
 use Rattle.refusal.specs.declared.Refusal.the-variants.{Width, Column, Row, Stale, Ahead}
 use Rattle.stripe.proofs.Frame.{read-image}
 use Rattle.stripe.proofs.Places.{revision-in}
-use Rattle.stripe.specs.Layout.{revision-at, rows}
-use Rattle.stripe.specs.Params.{Admitted}
-use Rattle.stripe.specs.Reading.{readOf, refusal-given}
+use Rattle.stripe.specs.Layout.{revision-at, revisionOf, rows}
+use Rattle.stripe.specs.Reading.{Image, readOf, refusal-given}
 use Rattle.stripe.specs.declared.Params.{Params}
 use Rattle.stripe.specs.declared.Reading.{Reading}
 use Rattle.stripe.specs.declared.Reading.the-variants.{Stripe, Refused as Unread}
 use Rattle.revision.specs.Revision.{judged}
-use Rattle.write.specs.Steps.{Target}
-use Rattle.write.specs.Written.{writeOf, write-read, write-sound, write-judged}
+use Rattle.present.specs.Steps.{Target}
+use Rattle.write.specs.Written.{by-age, writeOf, write-read, write-sound, write-judged}
 use Rattle.revision.specs.declared.Age.{Age}
 use Rattle.revision.specs.declared.Age.the-variants.{Current, Older, Newer}
 use Rattle.write.specs.declared.Written.{Written}
 use Rattle.write.specs.declared.Written.the-variants.{Refused}
 
 -- what is left where it is known which way out was taken
-leaves-is : (l m : Left Written) → l ≡ m → Leaves l (m .answer) (m .image)
+pub leaves-is : (l m : Left Written) → l ≡ m → Leaves l (m .answer) (m .image)
 leaves-is l m e = rw e (record { answered = refl; left = refl })
+
+-- ---- by the age y of the base
+
+module _ (s : List ℕ) (l : Left Written) (y : Age) where
+  pub age-stale : y ≡ Older → Leaves (by-age s l y) (Refused Stale) s
+  age-stale o = leaves-is (by-age s l y) (record { answer = Refused Stale; image = s }) (ap (by-age s l) o)
+
+  pub age-ahead : y ≡ Newer → Leaves (by-age s l y) (Refused Ahead) s
+  age-ahead o = leaves-is (by-age s l y) (record { answer = Refused Ahead; image = s }) (ap (by-age s l) o)
+
+  pub age-current : (x : Written) (u : List ℕ) → y ≡ Current → Leaves l x u → Leaves (by-age s l y) x u
+  age-current x u o L = rw o L
+
+pub revision-fits : (s : List ℕ) (q : Params) (i a : ℕ) → Image s q → i < q .k → a ≡ revision-at i → a + 4 ≤ length s
+revision-fits s q i a I h e = omega (arith, I .len, revision-in q i h)
+
+pub age-is : (s : List ℕ) (i a n b : ℕ) (y : Age) → a ≡ revision-at i → n ≡ u32 s a → y ≡ judged n b → y ≡ judged (revisionOf s i) b
+age-is s i a n b y e f g = g ∙ ap (λ (m : ℕ). judged m b) (f ∙ ap (u32 s) e)
+
+-- ---- the tests in their order
 
 module _ (s v : List ℕ) (i t b : ℕ) (w : Reading) (e : w ≡ readOf s) where
   pub unread : (n x : Refusal) → w ≡ Unread n → x ≡ refusal-given w → Leaves (writeOf s i t b v) (Refused x) s
@@ -40,8 +59,8 @@ module _ (s v : List ℕ) (i t b : ℕ) (w : Reading) (e : w ≡ readOf s) where
     pub read-p : 1 ≤ q .p
     read-p = omega (arith, read-image s q w e f .admitted .p-low)
 
-    pub read-admitted : Admitted q
-    read-admitted = read-image s q w e f .admitted
+    pub read-accepted : Image s q
+    read-accepted = read-image s q w e f
 
     sound : writeOf s i t b v ≡ write-sound s i t b v q
     unfolding writeOf write-read
@@ -52,9 +71,6 @@ module _ (s v : List ℕ) (i t b : ℕ) (w : Reading) (e : w ≡ readOf s) where
     no-column h = leaves-is (writeOf s i t b v) (record { answer = Refused Column; image = s }) (sound ∙ simp (le-ltb i (q .k) h))
 
     module _ (h : i < q .k) where
-      pub revision-fits : (a : ℕ) → a ≡ revision-at i → a + 4 ≤ length s
-      revision-fits a g = omega (arith, read-image s q w e f .len, revision-in q i h)
-
       pub no-row : q .p - 1 ≤ t → Leaves (writeOf s i t b v) (Refused Row) s
       unfolding write-sound
       no-row g = leaves-is (writeOf s i t b v) (record { answer = Refused Row; image = s }) (sound ∙ simp (lt-ltb i (q .k) h, le-ltb t (rows q) g))
@@ -68,20 +84,19 @@ module _ (s v : List ℕ) (i t b : ℕ) (w : Reading) (e : w ≡ readOf s) where
           pub read-target : Target s q i t v
           read-target = record { accepted = read-image s q w e f; column = h; row = g; width = k }
 
-          module _ (a n : ℕ) (c : a ≡ revision-at i) (d : n ≡ u32 s a) (y : Age) (l : y ≡ judged n b) where
+          module _ (y : Age) (l : y ≡ judged (revisionOf s i) b) where
             way : writeOf s i t b v ≡ write-judged s q i t b v y
             unfolding write-sound
-            way =
-                sound ∙ simp (lt-ltb i (q .k) h, lt-ltb t (rows q) g, eq-eqb (length v) (q .b) k)
-                (ap (write-judged s q i t b v) (sym (l ∙ ap (λ (m : ℕ). judged m b) (d ∙ ap (u32 s) c))))
+            way = sound ∙ simp (lt-ltb i (q .k) h, lt-ltb t (rows q) g, eq-eqb (length v) (q .b) k) (ap (write-judged s q i t b v) (sym l))
 
             pub stale : y ≡ Older → Leaves (writeOf s i t b v) (Refused Stale) s
             unfolding write-judged
-            stale o = leaves-is (writeOf s i t b v) (record { answer = Refused Stale; image = s }) (way ∙ ap (write-judged s q i t b v) o)
+            stale o = rw way (age-stale s _ y o)
 
             pub ahead : y ≡ Newer → Leaves (writeOf s i t b v) (Refused Ahead) s
             unfolding write-judged
-            ahead o = leaves-is (writeOf s i t b v) (record { answer = Refused Ahead; image = s }) (way ∙ ap (write-judged s q i t b v) o)
+            ahead o = rw way (age-ahead s _ y o)
 
             pub current : (x : Written) (u : List ℕ) → y ≡ Current → Leaves (write-judged s q i t b v Current) x u → Leaves (writeOf s i t b v) x u
-            current x u o L = rw (way ∙ ap (write-judged s q i t b v) o) L
+            unfolding write-judged
+            current x u o L = rw way (age-current s _ y x u o L)

@@ -1,7 +1,7 @@
 -- `write::write` meets its contract.
 -- Assumes nothing.
 use borrow.Author.Needs.{needs}
-use Rattle.write.proofs.Ways.{unread, read-p, read-admitted, no-column, revision-fits, no-row, no-width, read-target, stale, ahead, current}
+use Rattle.write.proofs.Ways.{unread, read-p, read-accepted, no-column, no-row, no-width, read-target, stale, ahead, current}
 use Rattle.write.proofs.write.Statement.{statement}
 use Rattle.write.proofs.write.Tie as tie
 
@@ -44,14 +44,8 @@ same-length-4 c = search needs
 returns-4 : tie.Need-returns-4
 returns-4 c = search no-width
 
-revision-at-requires : tie.Need-revision-at-requires
-revision-at-requires c κs = (search read-admitted, search needs)
-
-u32-at-requires : tie.Need-u32-at-requires
-u32-at-requires c κs = search revision-fits
-
-judge-requires : tie.Need-judge-requires
-judge-requires c κs = search needs
+age-of-requires : tie.Need-age-of-requires
+age-of-requires c κs = (search read-accepted, search needs)
 
 enum-told-2 : tie.Need-enum-told-2
 enum-told-2 c = search needs
@@ -100,9 +94,7 @@ write-spec =
     returns-3
     same-length-4
     returns-4
-    revision-at-requires
-    u32-at-requires
-    judge-requires
+    age-of-requires
     enum-told-2
     accept-requires
     enum-told-3

@@ -1,19 +1,19 @@
--- `write::move_parity` meets its contract.
+-- `present::move_parity` meets its contract.
 -- Assumes nothing.
 use Prim.Native.Nat.{_*_, _-_, _≤_}
 use mathlib.Core.Path.{_≡_}
 use native.Mathlib.Omega.{arith}
 use borrow.Author.Needs.{needs}
-use Rattle.write.proofs.Laws.{shift-none, shift-rows, shift-more, shift-end, scatter-few, crossing}
-use Rattle.write.specs.Steps.{Shifted}
-use Rattle.write.proofs.move_parity.Statement.{statement}
-use Rattle.write.proofs.move_parity.Tie as tie
+use Rattle.present.proofs.Laws.{shift-none, shift-rows, shift-more, shift-end, scatter-few, crossing}
+use Rattle.present.specs.Steps.{Shifted}
+use Rattle.present.proofs.move_parity.Statement.{statement}
+use Rattle.present.proofs.move_parity.Tie as tie
 
 abbrev Inv-loop : tie.InvT-loop
-Inv-loop image₀ q column row diff parities rows count₀ j₀ image count j = (j ≤ parities) × (count ≤ 60 * j) × Shifted image₀ image q column row diff j count
+Inv-loop image₀ q lost column row diff parities rows count₀ j₀ image count j = (j ≤ parities) × (count ≤ 60 * j) × Shifted image₀ image q lost column row diff j count
 
 abbrev μ-loop : tie.MeasureT-loop
-μ-loop image₀ q column row diff parities rows count₀ j₀ image count j = parities - j
+μ-loop image₀ q lost column row diff parities rows count₀ j₀ image count j = parities - j
 
 sub-rows : tie.Need-sub-rows Inv-loop μ-loop
 sub-rows c = omega arith
@@ -21,11 +21,11 @@ sub-rows c = omega arith
 loop-holds : tie.Need-loop-holds Inv-loop μ-loop
 loop-holds c = (omega arith, omega arith, search shift-none)
 
+touch-present-requires : tie.Need-touch-present-requires Inv-loop μ-loop
+touch-present-requires c κs = search crossing
+
 parity-at-requires : tie.Need-parity-at-requires Inv-loop μ-loop
 parity-at-requires c κs = search needs
-
-touch-requires : tie.Need-touch-requires Inv-loop μ-loop
-touch-requires c κs = search crossing
 
 scatter-requires : tie.Need-scatter-requires Inv-loop μ-loop
 scatter-requires c κs = search shift-rows
@@ -56,8 +56,8 @@ move-parity-spec =
     μ-loop
     sub-rows
     loop-holds
+    touch-present-requires
     parity-at-requires
-    touch-requires
     scatter-requires
     add-count
     add-j

@@ -1,9 +1,9 @@
--- `write::touch` meets its contract.
+-- `present::touch` meets its contract.
 -- Assumes nothing.
 use borrow.Author.Needs.{needs}
-use Rattle.write.proofs.Laws.{inverse-small, touch-small, touch-right}
-use Rattle.write.proofs.touch.Statement.{statement}
-use Rattle.write.proofs.touch.Tie as tie
+use Rattle.present.proofs.Laws.{inverse-small, touch-small, touch-right}
+use Rattle.present.proofs.touch.Statement.{statement}
+use Rattle.present.proofs.touch.Tie as tie
 
 add-inverse : tie.Need-add-inverse
 add-inverse c = search needs
