@@ -9,6 +9,9 @@ static uint8_t data[60 * 60 * 512];
 static uint8_t image[1874176];
 static uint8_t strip[512];
 
+enum { CALLS = 7 };
+static const char *const names[CALLS] = {"make", "refill", "check", "write", "away", "rebuild", "restore"};
+
 int main(int words, char **word) {
     if (words != 8) return 2;
     const char *call = word[1];
@@ -19,14 +22,19 @@ int main(int words, char **word) {
     for (size_t i = 0; i < given; i++) data[i] = (uint8_t)(i * 2654435761u >> 13);
     for (size_t i = 0; i < b; i++) strip[i] = (uint8_t)(i * 77 + 1);
     airsaffron_answer answer = airsaffron_make(p, k, r, b, data, given, image, length);
+    int which = 0;
+    while (which < CALLS && strcmp(call, names[which])) which++;
     for (unsigned long i = 0; i < times && answer.refusal == 0; i++) {
-        if (!strcmp(call, "make")) answer = airsaffron_make(p, k, r, b, data, given, image, length);
-        else if (!strcmp(call, "refill")) answer = airsaffron_refill(image, length);
-        else if (!strcmp(call, "check")) answer = airsaffron_check(image, length);
-        else if (!strcmp(call, "write")) { strip[0]++; answer = airsaffron_write(image, length, 0, 1, (uint32_t)i, strip, b); }
-        else if (!strcmp(call, "rebuild")) answer = airsaffron_rebuild(image, length, lost);
-        else if (!strcmp(call, "restore")) answer = airsaffron_restore(image, length, lost, 0, 1, strip, b);
-        else return 2;
+        switch (which) {
+        case 0: answer = airsaffron_make(p, k, r, b, data, given, image, length); break;
+        case 1: answer = airsaffron_refill(image, length); break;
+        case 2: answer = airsaffron_check(image, length); break;
+        case 3: strip[0]++, answer = airsaffron_write(image, length, 0, 1, (uint32_t)i, strip, b); break;
+        case 4: strip[0]++, answer = airsaffron_write_away(image, length, lost, 0, 1, (uint32_t)i, strip, b); break;
+        case 5: answer = airsaffron_rebuild(image, length, lost); break;
+        case 6: answer = airsaffron_restore(image, length, lost, 0, 1, strip, b); break;
+        default: return 2;
+        }
     }
     if (answer.refusal != 0) fprintf(stderr, "call: refused %llu\n", (unsigned long long)answer.refusal);
     return answer.refusal != 0;

@@ -120,6 +120,16 @@ airsaffron_answer airsaffron_write(uint8_t *image, size_t image_length, uint64_t
                                    size_t strip_length);
 
 /*
+ * The same while the columns whose bits are set in `lost` are away, bit n for column n: present columns end as if the write had been made on the
+ * complete image, and what lost columns held does not matter. Where `column` itself is lost its old strip is restored first, and only present parity
+ * and the revision move. Bytes of lost columns stay. With `lost` 0 it is `airsaffron_write`.
+ * first: the new revision; second: how many strips of present parity columns the difference was added to. Refusals: reading, COLUMN for `column` or
+ * a bit of `lost`, ROW, WIDTH, MANY, then STALE or AHEAD.
+ */
+airsaffron_answer airsaffron_write_away(uint8_t *image, size_t image_length, uint64_t lost, uint64_t column, uint64_t row, uint32_t base,
+                                        const uint8_t *strip, size_t strip_length);
+
+/*
  * Rebuilds the columns whose bits are set in `lost`, bit n for column n; what they held does not matter. Other bytes stay.
  * Refusals: reading, COLUMN, MANY.
  */

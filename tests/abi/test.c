@@ -177,7 +177,7 @@ static void test_make(void) {
 
 /* ---- read, and what every call on an image refuses alike */
 
-/* read, refill, check, write and rebuild refuse the image alike, and change nothing. */
+/* Every call on an image refuses it alike, and changes nothing. */
 static void all_refuse(lent s, uint64_t refusal, const char *what) {
     uint64_t shape[4] = {11, 12, 13, 14};
     lent one = lend(NULL, 1);
@@ -186,6 +186,7 @@ static void all_refuse(lent s, uint64_t refusal, const char *what) {
     expect_answer(airsaffron_check(s.at, s.length), refusal, 0, 0, what);
     expect_answer(airsaffron_refill(s.at, s.length), refusal, 0, 0, what);
     expect_answer(airsaffron_write(s.at, s.length, 9, 9, 9, one.at, one.length), refusal, 0, 0, what);
+    expect_answer(airsaffron_write_away(s.at, s.length, UINT64_MAX, 9, 9, 9, one.at, one.length), refusal, 0, 0, what);
     expect_answer(airsaffron_rebuild(s.at, s.length, UINT64_MAX), refusal, 0, 0, what);
     expect_answer(airsaffron_restore(s.at, s.length, UINT64_MAX, 9, 9, one.at, 0), refusal, 0, 0, what);
     expect_answer(airsaffron_show(s.at, s.length, UINT64_MAX, 9, 9, one.at, 0), refusal, 0, 0, what);
@@ -302,6 +303,9 @@ static void test_write(void) {
 
 /* ---- rebuild, restore and show */
 
+/* the patterns of at most two of I's four columns */
+static const uint64_t few_lost[11] = {0, 1, 2, 4, 8, 3, 5, 9, 6, 10, 12};
+
 /* I, with the lost columns spoilt */
 static lent spoilt(uint64_t lost) {
     static const size_t at[4] = {DATA_0, DATA_1, PARITY_0, PARITY_1};
@@ -324,11 +328,10 @@ static void rebuild_refuses(uint64_t lost, uint64_t refusal, const char *what) {
 }
 
 static void test_rebuild(void) {
-    static const uint64_t two[11] = {0, 1, 2, 4, 8, 3, 5, 9, 6, 10, 12};
     size_t i;
     for (i = 0; i < 11; i++) {
-        lent s = spoilt(two[i]);
-        expect_answer(airsaffron_rebuild(s.at, s.length, two[i]), 0, 0, 0, "rebuild");
+        lent s = spoilt(few_lost[i]);
+        expect_answer(airsaffron_rebuild(s.at, s.length, few_lost[i]), 0, 0, 0, "rebuild");
         expect(holds_bytes(s, I), "P6 I again, for each pattern of at most two columns");
         take_back(s);
     }
@@ -336,6 +339,68 @@ static void test_rebuild(void) {
     rebuild_refuses(16, AIRSAFFRON_COLUMN, "P8 pattern 16");
     rebuild_refuses(UINT64_C(0x8000000000000000), AIRSAFFRON_COLUMN, "pattern bit 63");
     rebuild_refuses(31, AIRSAFFRON_COLUMN, "rebuild COLUMN before MANY");
+}
+
+/* ---- write while columns are away */
+
+static void away_refuses(uint64_t lost, uint64_t column, uint64_t row, uint32_t base, size_t n, uint64_t refusal, const char *what) {
+    lent s = spoilt(lost & 15), v = lend(NULL, n);
+    expect_answer(airsaffron_write_away(s.at, s.length, lost, column, row, base, v.at, v.length), refusal, 0, 0, what);
+    expect(unchanged(s) && unchanged(v), what);
+    take_back(s);
+    take_back(v);
+}
+
+/* For each pattern of at most two columns and each data strip: present columns end as on the complete image, lost ones stay, and rebuild gives
+ * the complete image with the write made. */
+static void away_is(uint64_t lost, size_t column, size_t row) {
+    static const size_t at[4] = {DATA_0, DATA_1, PARITY_0, PARITY_1};
+    static const uint8_t five[1] = {5};
+    lent s = spoilt(lost), z = lend(I, I_LENGTH), v = lend(five, 1);
+    uint32_t base = column == 0 ? 0 : 7;
+    uint64_t count = 0;
+    size_t n, i;
+    airsaffron_answer whole = airsaffron_write(z.at, z.length, column, row, base, v.at, v.length);
+    for (n = 2; n < 4; n++) {
+        for (i = 0; i < 4 && !(lost >> n & 1); i++) {
+            count += z.at[at[n] + i] != I[at[n] + i];
+        }
+    }
+    expect(whole.refusal == 0, "the write on the complete image");
+    expect_answer(airsaffron_write_away(s.at, s.length, lost, column, row, base, v.at, v.length), 0, whole.first, count, "away");
+    for (n = 0; n < 4; n++) {
+        memcpy(s.was + at[n], (lost >> n & 1 ? s.was : z.at) + at[n], 4);
+    }
+    memcpy(s.was, z.at, DATA_0);
+    expect(unchanged(s) && unchanged(v), "present columns as on the complete image, lost ones as they were");
+    expect_answer(airsaffron_rebuild(s.at, s.length, lost), 0, 0, 0, "rebuild afterwards");
+    expect(holds_bytes(s, z.at), "the complete image with the write made");
+    take_back(s);
+    take_back(z);
+    take_back(v);
+}
+
+static void test_write_away(void) {
+    size_t i, column, row;
+    for (i = 0; i < 11; i++) {
+        for (column = 0; column < 2; column++) {
+            for (row = 0; row < 4; row++) {
+                away_is(few_lost[i], column, row);
+            }
+        }
+    }
+    away_refuses(UINT64_MAX, 1, 1, 7, 1, AIRSAFFRON_COLUMN, "a pattern of 64 bits");
+    away_refuses(16, 1, 4, 9, 2, AIRSAFFRON_COLUMN, "pattern COLUMN before ROW");
+    away_refuses(7, 2, 4, 9, 2, AIRSAFFRON_COLUMN, "column 2 is parity");
+    away_refuses(1, UINT64_MAX, 0, 0, 1, AIRSAFFRON_COLUMN, "column 2^64 - 1 away");
+    away_refuses(7, 1, 4, 9, 2, AIRSAFFRON_ROW, "away ROW before WIDTH");
+    away_refuses(1, 1, UINT64_MAX, 7, 1, AIRSAFFRON_ROW, "row 2^64 - 1 away");
+    away_refuses(7, 1, 3, 9, 2, AIRSAFFRON_WIDTH, "away WIDTH before MANY");
+    away_refuses(2, 1, 3, 7, 0, AIRSAFFRON_WIDTH, "an empty strip away");
+    away_refuses(7, 1, 3, 6, 1, AIRSAFFRON_MANY, "MANY before STALE");
+    away_refuses(14, 1, 3, 8, 1, AIRSAFFRON_MANY, "MANY before AHEAD");
+    away_refuses(6, 1, 3, 6, 1, AIRSAFFRON_STALE, "away base 6");
+    away_refuses(6, 1, 3, 8, 1, AIRSAFFRON_AHEAD, "away base 8");
 }
 
 /* Restore and show refuse alike. */
@@ -350,20 +415,19 @@ static void asking_refuses(uint64_t lost, uint64_t column, uint64_t row, size_t 
 
 static void test_restore_and_show(void) {
     static const size_t at[4] = {DATA_0, DATA_1, PARITY_0, PARITY_1};
-    static const uint64_t two[11] = {0, 1, 2, 4, 8, 3, 5, 9, 6, 10, 12};
     size_t i, n, t;
     for (i = 0; i < 11; i++) {
         for (n = 0; n < 4; n++) {
             for (t = 0; t < 4; t++) {
-                int away = (int)(two[i] >> n & 1);
-                lent s = spoilt(two[i]), c = lend(NULL, 3);
+                int away = (int)(few_lost[i] >> n & 1);
+                lent s = spoilt(few_lost[i]), c = lend(NULL, 3);
                 airsaffron_answer x;
-                expect_answer(airsaffron_restore(s.at, s.length, two[i], n, t, c.at, c.length), 0, 0, 0, "restore");
+                expect_answer(airsaffron_restore(s.at, s.length, few_lost[i], n, t, c.at, c.length), 0, 0, 0, "restore");
                 if (away) {
                     c.was[0] = I[at[n] + t];
                 }
                 expect(unchanged(s) && unchanged(c), "restore puts the strip of a lost column into the scratch, and nothing else");
-                x = airsaffron_show(s.at, s.length, two[i], n, t, c.at, c.length);
+                x = airsaffron_show(s.at, s.length, few_lost[i], n, t, c.at, c.length);
                 expect_answer(x, 0, away ? AIRSAFFRON_IN_SCRATCH : AIRSAFFRON_IN_IMAGE, away ? 0 : at[n] + t, "show");
                 expect((away ? c.at : s.at)[x.second] == I[at[n] + t], "the strip shown is I's");
                 expect(unchanged(s) && unchanged(c), "show writes nothing");
@@ -411,6 +475,10 @@ static void test_limits(void) {
     expect(guarded(c) && memcmp(c.at, right + 14 + 240 + 59 * column + 59 * 512, 512) == 0, "the strip of 512 bytes");
     expect_answer(airsaffron_rebuild(s.at, s.length, UINT64_C(1) << 59), 0, 0, 0, "data column 59 rebuilt");
     expect(holds_bytes(s, right), "the image again");
+    memset(s.at + 14 + 240 + 59 * column, 0, column);
+    expect(airsaffron_write_away(s.at, s.length, UINT64_C(1) << 59, 59, 59, 0, d.at, 512).first == 1, "its last data strip written while away");
+    expect_answer(airsaffron_rebuild(s.at, s.length, UINT64_C(1) << 59), 0, 0, 0, "data column 59 comes back");
+    expect(airsaffron_write(right, length, 59, 59, 0, d.at, 512).refusal == 0 && holds_bytes(s, right), "as if it had never been away");
     memset(s.at + 16 + 240 + 60 * column, 0, column);
     expect_answer(airsaffron_rebuild(s.at, s.length, UINT64_C(1) << 60), 0, 0, 0, "parity column 60 rebuilt");
     expect(holds_bytes(s, right), "the image again");
@@ -432,6 +500,7 @@ int main(void) {
     test_check();
     test_write();
     test_rebuild();
+    test_write_away();
     test_restore_and_show();
     test_limits();
     for (n = 0; n < 17; n++) {

@@ -13,6 +13,7 @@ ghost use Rattle.stripe.specs.declared.Reading.the-variants.{Stripe};
 ghost use Rattle.stripe.specs.Reading.{readOf, reading-values};
 ghost use Rattle.parity.specs.Answer.{makeOf, refillOf, checkOf};
 ghost use Rattle.write.specs.Written.{writeOf};
+ghost use Rattle.away.specs.Away.{awayOf};
 ghost use Rattle.rebuild.specs.Answer.{rebuildOf, restoreOf, shown-at};
 ghost use Rattle.pattern.specs.Pattern.{asked};
 ghost use Rattle.airsaffron.specs.Given.{refused-given, element-given, outcome-given, checkup-given, written-given, reading-given, shape-left, shown-given};
@@ -149,6 +150,22 @@ pub extern "C" fn airsaffron_write(
     ensures { λ _. ⌜ now (image .exit) ≡ writeOf (now (image .entry)) column row base (now (strip .entry)) .image ⌝ }
 {
     written(write::write(image, column as usize, row as usize, base, strip))
+}
+
+// Writes a strip while the columns of a pattern are lost.
+#[no_mangle]
+pub extern "C" fn airsaffron_write_away(
+    image: &mut [u8],
+    lost: u64,
+    column: u64,
+    row: u64,
+    base: u32,
+    strip: &[u8],
+) -> Answer
+    ensures { λ x. ⌜ x ≡ written-given (awayOf (now (image .entry)) lost column row base (now (strip .entry)) .answer) ⌝ }
+    ensures { λ _. ⌜ now (image .exit) ≡ awayOf (now (image .entry)) lost column row base (now (strip .entry)) .image ⌝ }
+{
+    written(away::write(image, lost, column as usize, row as usize, base, strip))
 }
 
 // p, k, r and B.
