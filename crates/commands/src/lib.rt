@@ -171,11 +171,12 @@ fn accepted(written: Written) -> Answer {
     }
 }
 
-// write: a file's strip against a revision. Of a file that is too long a byte too many is taken.
+// write: a file's strip against a revision, while columns are lost or not. Of a file that is too long a byte too many is taken.
 fn write_strip(
     column: usize,
     row: usize,
     base: u32,
+    lost: u64,
     from: &[u8],
     path: &[u8],
     image: &mut [u8],
@@ -189,7 +190,7 @@ fn write_strip(
     let Taken::Bytes(n) = files::take(path, image) else {
         return nothing();
     };
-    let written = write::write(&mut image[0..n], column, row, base, &strip[0..m]);
+    let written = away::write(&mut image[0..n], lost, column, row, base, &strip[0..m]);
     Changed {
         answer: accepted(written),
         length: n,
@@ -212,8 +213,16 @@ fn change_by(
         Command::Make(p, k, r, b) => {
             make(p, k, r, b, words::word(line, mark, 5), path, image, other)
         }
-        Command::Write(column, row, base) => {
-            write_strip(column, row, base, words::word(line, mark, 5), path, image)
+        Command::Write(column, row, base, lost) => {
+            write_strip(
+                column,
+                row,
+                base,
+                lost,
+                words::word(line, mark, 5),
+                path,
+                image,
+            )
         }
         Command::Rebuild(lost) => rebuild_lost(lost, path, image),
         _ => refill(path, image),
@@ -295,14 +304,14 @@ fn change(
 fn help() -> Answer {
     io::write_all(
         1,
-        b"depot make P K R B DATA IMAGE             a new image of the data, revisions 0
-depot check IMAGE                         the word of wrong parities; 0: all right
-depot refill IMAGE                        all parity anew from the data
-depot write IMAGE COLUMN ROW BASE STRIP   a new strip against a revision: the new one and the parity strips changed
-depot rebuild IMAGE LOST                  the lost columns from the others
-depot show IMAGE LOST COLUMN ROW          a strip, restored if its column is lost
-depot report IMAGE                        parameters, revisions, each parity right or wrong
-depot help                                these lines
+        b"depot make P K R B DATA IMAGE                    a new image of the data, revisions 0
+depot check IMAGE                                the word of wrong parities; 0: all right
+depot refill IMAGE                               all parity anew from the data
+depot write IMAGE COLUMN ROW BASE STRIP [LOST]   a new strip against a revision: the new one and the parity strips changed
+depot rebuild IMAGE LOST                         the lost columns from the others
+depot show IMAGE LOST COLUMN ROW                 a strip, restored if its column is lost
+depot report IMAGE                               parameters, revisions, each parity right or wrong
+depot help                                       these lines
 LOST: columns such as 0,3, or - for none; data columns come first, then parity. DATA, STRIP and IMAGE are files.
 ",
     );
@@ -313,7 +322,7 @@ LOST: columns such as 0,3, or - for none; data columns come first, then parity. 
 fn usage() -> Answer {
     io::write_all(
         2,
-        b"usage: depot make P K R B DATA IMAGE | check IMAGE | refill IMAGE | write IMAGE COLUMN ROW BASE STRIP | rebuild IMAGE LOST | show IMAGE LOST COLUMN ROW | report IMAGE | help\n",
+        b"usage: depot make P K R B DATA IMAGE | check IMAGE | refill IMAGE | write IMAGE COLUMN ROW BASE STRIP [LOST] | rebuild IMAGE LOST | show IMAGE LOST COLUMN ROW | report IMAGE | help\n",
     );
     Answer::Said
 }

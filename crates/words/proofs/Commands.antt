@@ -75,9 +75,14 @@ module _ (ws : List (List ℕ)) where
           unfolding write-words
           large-base h = rw (sym e₂ ∙ g₂, sym e₃ ∙ g₃, sym e₄ ∙ g₄) (rw (le-ltb base (2 ^ 32) (omega arith)))
 
-          pub all-three : base ≤ 4294967295 → Write column row base ≡ write-words ws
-          unfolding write-words
-          all-three h = rw (sym e₂ ∙ g₂, sym e₃ ∙ g₃, sym e₄ ∙ g₄) (rw (lt-ltb base (2 ^ 32) (omega arith)))
+          module _ (h : base ≤ 4294967295) (u : Lost) (e₆ : u ≡ columns-in ws 6) where
+            pub write-none : u ≡ NoList → Usage ≡ write-words ws
+            unfolding write-words
+            write-none g = rw (sym e₂ ∙ g₂, sym e₃ ∙ g₃, sym e₄ ∙ g₄) (rw (lt-ltb base (2 ^ 32) (omega arith), sym e₆ ∙ g))
+
+            pub write-all : (lost : ℕ) → u ≡ Columns lost → Write column row base lost ≡ write-words ws
+            unfolding write-words
+            write-all lost g = rw (sym e₂ ∙ g₂, sym e₃ ∙ g₃, sym e₄ ∙ g₄) (rw (lt-ltb base (2 ^ 32) (omega arith), sym e₆ ∙ g))
 
   module _ (u : Lost) (e₂ : u ≡ columns-in ws 2) where
     pub none-lost : u ≡ NoList → Usage ≡ rebuild-words ws
@@ -143,16 +148,21 @@ module _ (ws : List (List ℕ)) where
       unfolding commandOf
       asks-write x h g = rw (sym e₁ ∙ f₁, sym e₂ ∙ g) h
 
-      module _ (f₂ : t₂ ≡ false) (t₃ : Bool) (e₃ : t₃ ≡ asks-for ws rebuild-name 3) where
-        pub asks-rebuild : (x : Command) → x ≡ rebuild-words ws → t₃ ≡ true → x ≡ commandOf ws
+      module _ (f₂ : t₂ ≡ false) (t₃ : Bool) (e₃ : t₃ ≡ asks-for ws write-name 7) where
+        pub asks-away : (x : Command) → x ≡ write-words ws → t₃ ≡ true → x ≡ commandOf ws
         unfolding commandOf
-        asks-rebuild x h g = rw (sym e₁ ∙ f₁, sym e₂ ∙ f₂, sym e₃ ∙ g) h
+        asks-away x h g = rw (sym e₁ ∙ f₁, sym e₂ ∙ f₂, sym e₃ ∙ g) h
 
-        module _ (f₃ : t₃ ≡ false) (t₄ : Bool) (e₄ : t₄ ≡ asks-for ws show-name 5) where
-          pub asks-show : (x : Command) → x ≡ show-words ws → t₄ ≡ true → x ≡ commandOf ws
+        module _ (f₃ : t₃ ≡ false) (t₄ : Bool) (e₄ : t₄ ≡ asks-for ws rebuild-name 3) where
+          pub asks-rebuild : (x : Command) → x ≡ rebuild-words ws → t₄ ≡ true → x ≡ commandOf ws
           unfolding commandOf
-          asks-show x h g = rw (sym e₁ ∙ f₁, sym e₂ ∙ f₂, sym e₃ ∙ f₃, sym e₄ ∙ g) h
+          asks-rebuild x h g = rw (sym e₁ ∙ f₁, sym e₂ ∙ f₂, sym e₃ ∙ f₃, sym e₄ ∙ g) h
 
-          pub asks-short : (x : Command) → x ≡ short-command ws → t₄ ≡ false → x ≡ commandOf ws
-          unfolding commandOf
-          asks-short x h g = rw (sym e₁ ∙ f₁, sym e₂ ∙ f₂, sym e₃ ∙ f₃, sym e₄ ∙ g) h
+          module _ (f₄ : t₄ ≡ false) (t₅ : Bool) (e₅ : t₅ ≡ asks-for ws show-name 5) where
+            pub asks-show : (x : Command) → x ≡ show-words ws → t₅ ≡ true → x ≡ commandOf ws
+            unfolding commandOf
+            asks-show x h g = rw (sym e₁ ∙ f₁, sym e₂ ∙ f₂, sym e₃ ∙ f₃, sym e₄ ∙ f₄, sym e₅ ∙ g) h
+
+            pub asks-short : (x : Command) → x ≡ short-command ws → t₅ ≡ false → x ≡ commandOf ws
+            unfolding commandOf
+            asks-short x h g = rw (sym e₁ ∙ f₁, sym e₂ ∙ f₂, sym e₃ ∙ f₃, sym e₄ ∙ f₄, sym e₅ ∙ g) h

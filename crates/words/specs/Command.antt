@@ -1,4 +1,4 @@
--- "depot make P K R B DATA IMAGE", "depot check IMAGE", "depot refill IMAGE", "depot write IMAGE COLUMN ROW BASE STRIP",
+-- "depot make P K R B DATA IMAGE", "depot check IMAGE", "depot refill IMAGE", "depot write IMAGE COLUMN ROW BASE STRIP [LOST]",
 -- "depot rebuild IMAGE LOST", "depot show IMAGE LOST COLUMN ROW", "depot report IMAGE", "depot help";
 -- "words that are no number, numbers above 2^64 - 1, missing or surplus words get one line of usage".
 -- Assumes nothing.
@@ -67,11 +67,11 @@ unfoldable pub make-words : List (List ℕ) → Command
 make-words ws =
     with-number (number-in ws 1) (λ p. with-number (number-in ws 2) (λ k. with-number (number-in ws 3) (λ r. with-number (number-in ws 4) (λ b. Make p k r b))))
 
--- a base is a revision, a number of 32 bits
+-- a base is a revision, a number of 32 bits; "`write` takes an optional last word LOST": where it is not there, no column is lost
 unfoldable pub write-words : List (List ℕ) → Command
 write-words ws =
     with-number (number-in ws 2) (λ column. with-number (number-in ws 3) (λ row. with-number (number-in ws 4) (λ base.
-    choose (ltb base (2 ^ 32)) (Write column row base) Usage)))
+    choose (ltb base (2 ^ 32)) (with-columns (columns-in ws 6) (λ lost. Write column row base lost)) Usage)))
 
 unfoldable pub rebuild-words : List (List ℕ) → Command
 rebuild-words ws = with-columns (columns-in ws 2) (λ lost. Rebuild lost)
@@ -94,6 +94,7 @@ unfoldable pub commandOf : List (List ℕ) → Command
 commandOf ws =
     choose (asks-for ws make-name 7) (make-words ws)
     (choose (asks-for ws write-name 6) (write-words ws)
+    (choose (asks-for ws write-name 7) (write-words ws)
     (choose (asks-for ws rebuild-name 3) (rebuild-words ws)
     (choose (asks-for ws show-name 5) (show-words ws)
-    (short-command ws))))
+    (short-command ws)))))

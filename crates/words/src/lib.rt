@@ -20,12 +20,12 @@ pub enum Lost {
     NoList,
 }
 
-// What a line asks for: p, k, r and B; column, row and base; a pattern; a pattern, column and row.
+// What a line asks for: p, k, r and B; column, row, base and a pattern; a pattern; a pattern, column and row.
 pub enum Command {
     Make(usize, usize, usize, usize),
     Check,
     Refill,
-    Write(usize, usize, u32),
+    Write(usize, usize, u32, u64),
     Rebuild(u64),
     Show(u64, usize, usize),
     Report,
@@ -227,7 +227,7 @@ fn make_words(line: &[u8], mark: u8) -> Command
     Command::Make(p as usize, k as usize, r as usize, b as usize)
 }
 
-// write IMAGE COLUMN ROW BASE STRIP; a base is a number of 32 bits.
+// write IMAGE COLUMN ROW BASE STRIP, with LOST behind it or not; a base is a number of 32 bits.
 fn write_words(line: &[u8], mark: u8) -> Command
     ensures { λ x. ⌜ x ≡ write-words (parts mark (now (line .entry))) ⌝ }
 {
@@ -243,7 +243,10 @@ fn write_words(line: &[u8], mark: u8) -> Command
     if base > 4294967295 {
         return Command::Usage;
     }
-    Command::Write(column as usize, row as usize, base as u32)
+    let Lost::Columns(lost) = columns_at(line, mark, 6) else {
+        return Command::Usage;
+    };
+    Command::Write(column as usize, row as usize, base as u32, lost)
 }
 
 // rebuild IMAGE LOST
@@ -299,6 +302,9 @@ pub fn parse(line: &[u8], mark: u8) -> Command
         return make_words(line, mark);
     }
     if asks(line, mark, b"write", 6) {
+        return write_words(line, mark);
+    }
+    if asks(line, mark, b"write", 7) {
         return write_words(line, mark);
     }
     if asks(line, mark, b"rebuild", 3) {

@@ -1,7 +1,7 @@
 -- `words::parse` meets its contract.
 -- Assumes nothing.
 use borrow.Author.Needs.{needs}
-use Rattle.words.proofs.Commands.{asks-make, asks-write, asks-short, asks-show, asks-rebuild}
+use Rattle.words.proofs.Commands.{asks-make, asks-write, asks-away, asks-short, asks-show, asks-rebuild}
 use Rattle.words.proofs.parse.Statement.{statement}
 use Rattle.words.proofs.parse.Tie as tie
 
@@ -35,11 +35,11 @@ slice-aggregate-asks-3 c = search needs
 asks-requires-3 : tie.Need-asks-requires-3
 asks-requires-3 c κs = search needs
 
-rebuild-words-requires : tie.Need-rebuild-words-requires
-rebuild-words-requires c κs = search needs
+write-words-requires-2 : tie.Need-write-words-requires-2
+write-words-requires-2 c κs = search needs
 
 returns-3 : tie.Need-returns-3
-returns-3 c = search asks-rebuild
+returns-3 c = search asks-away
 
 slice-aggregate-asks-4 : tie.Need-slice-aggregate-asks-4
 slice-aggregate-asks-4 c = search needs
@@ -47,17 +47,29 @@ slice-aggregate-asks-4 c = search needs
 asks-requires-4 : tie.Need-asks-requires-4
 asks-requires-4 c κs = search needs
 
+rebuild-words-requires : tie.Need-rebuild-words-requires
+rebuild-words-requires c κs = search needs
+
+returns-4 : tie.Need-returns-4
+returns-4 c = search asks-rebuild
+
+slice-aggregate-asks-5 : tie.Need-slice-aggregate-asks-5
+slice-aggregate-asks-5 c = search needs
+
+asks-requires-5 : tie.Need-asks-requires-5
+asks-requires-5 c κs = search needs
+
 show-words-requires : tie.Need-show-words-requires
 show-words-requires c κs = search needs
 
-returns-4 : tie.Need-returns-4
-returns-4 c = search asks-show
+returns-5 : tie.Need-returns-5
+returns-5 c = search asks-show
 
 parse-short-requires : tie.Need-parse-short-requires
 parse-short-requires c κs = search needs
 
-returns-5 : tie.Need-returns-5
-returns-5 c = search asks-short
+returns-6 : tie.Need-returns-6
+returns-6 c = search asks-short
 
 pub parse-spec : {M : Type 1} → statement M
 parse-spec =
@@ -73,11 +85,15 @@ parse-spec =
     returns-2
     slice-aggregate-asks-3
     asks-requires-3
-    rebuild-words-requires
+    write-words-requires-2
     returns-3
     slice-aggregate-asks-4
     asks-requires-4
-    show-words-requires
+    rebuild-words-requires
     returns-4
+    slice-aggregate-asks-5
+    asks-requires-5
+    show-words-requires
+    returns-5
     parse-short-requires
-    returns-5)
+    returns-6)

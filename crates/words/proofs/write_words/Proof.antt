@@ -1,7 +1,7 @@
 -- `words::write_words` meets its contract.
 -- Assumes nothing.
 use borrow.Author.Needs.{needs}
-use Rattle.words.proofs.Commands.{no-base, no-column, large-base, no-row, all-three}
+use Rattle.words.proofs.Commands.{no-base, no-column, large-base, no-row, write-none, write-all}
 use Rattle.words.proofs.write_words.Statement.{statement}
 use Rattle.words.proofs.write_words.Tie as tie
 
@@ -44,11 +44,23 @@ returns-3 c = search no-base
 returns-4 : tie.Need-returns-4
 returns-4 c = search large-base
 
-cast-t12 : tie.Need-cast-t12
-cast-t12 c = search needs
+columns-at-requires : tie.Need-columns-at-requires
+columns-at-requires c κs = search needs
+
+enum-known-lost : tie.Need-enum-known-lost
+enum-known-lost c = search needs
+
+enum-told-4 : tie.Need-enum-told-4
+enum-told-4 c = search needs
 
 returns-5 : tie.Need-returns-5
-returns-5 c = search all-three
+returns-5 c = search write-none
+
+cast-t14 : tie.Need-cast-t14
+cast-t14 c = search needs
+
+returns-6 : tie.Need-returns-6
+returns-6 c = search write-all
 
 pub write-words-spec : {M : Type 1} → statement M
 write-words-spec =
@@ -67,5 +79,9 @@ write-words-spec =
     enum-told-3
     returns-3
     returns-4
-    cast-t12
-    returns-5)
+    columns-at-requires
+    enum-known-lost
+    enum-told-4
+    returns-5
+    cast-t14
+    returns-6)
