@@ -120,6 +120,19 @@ pub fn make(t: Tally, q: Shape, given: &[u8], one: &mut [u8], two: &mut [u8]) ->
     noted(t, add(apart(a, b), slices_apart(one, two)), a)
 }
 
+// Draws the data of a stripe into lent room; gives its length.
+fn draw_data(q: Shape, c: usize, room: &mut [u8]) -> usize {
+    let n = times(q.k, column_size(q));
+    fill(room, 0, n, c);
+    n
+}
+
+// Makes one image from drawn data, by the library; gives the number of a refusal, or 0.
+pub fn make_again(q: Shape, c: usize, image: &mut [u8], room: &mut [u8]) -> u64 {
+    let n = draw_data(q, c, room);
+    of_outcome(parity::make(q.p, q.k, q.r, q.b, part(room, 0, n), image))
+}
+
 // Makes both images from drawn data.
 pub fn make_drawn(
     t: Tally,
@@ -129,8 +142,7 @@ pub fn make_drawn(
     two: &mut [u8],
     room: &mut [u8],
 ) -> Tally {
-    let n = times(q.k, column_size(q));
-    fill(room, 0, n, c);
+    let n = draw_data(q, c, room);
     make(t, q, part(room, 0, n), one, two)
 }
 

@@ -1,11 +1,13 @@
 // The examples of document 01 that are run and not proved, its limits and its slips: both implementations give what the document says.
 use comparing::Tally;
-use comparing::apart;
+use comparing::answers_apart;
 use comparing::counted;
 use comparing::noted;
 use comparing::of_outcome;
 use comparing::of_written;
 use comparing::slices_apart;
+use second_ground::Answer;
+use second_ground::answered;
 use second_ground::shaped;
 use stripe::Checked;
 use stripe::Params;
@@ -50,9 +52,20 @@ fn of_reading(r: Reading) -> u64 {
     }
 }
 
-// Two numbers that are both to be the due one.
+// Two answers that are both to be the due one.
+fn answer_due(t: Tally, a: Answer, b: Answer, answer: Answer) -> Tally {
+    let differences = add(answers_apart(a, answer), answers_apart(b, answer));
+    noted(counted(t), differences, a.refusal)
+}
+
+// Two refusals that are both to be the due one, or 0.
 fn due(t: Tally, a: u64, b: u64, number: u64) -> Tally {
-    noted(counted(t), add(apart(a, number), apart(b, number)), a)
+    answer_due(
+        t,
+        answered(a, 0, 0),
+        answered(b, 0, 0),
+        answered(number, 0, 0),
+    )
 }
 
 // Two images that are both to be the due one.
@@ -154,19 +167,19 @@ fn exponents(t: Tally, slip: u64) -> Tally {
     )
 }
 
-// A write of 00 to column 0, row 0 of an image against a base: the due refusal, and the due image.
+// A write of 00 to column 0, row 0 of an image against a base: the due answer, and the due image.
 fn write_due(
     t: Tally,
     one: &mut [u8],
     two: &mut [u8],
     base: u32,
-    number: u64,
+    answer: Answer,
     image: &[u8],
     slip: u64,
 ) -> Tally {
     let a = of_written(write::write(one, 0, 0, base, b"\x00"));
     let b = second::write(two, 0, 0, base, b"\x00", slip);
-    let t1 = due(t, a.refusal, b.refusal, number);
+    let t1 = answer_due(t, a, b, answer);
     image_due(t1, one, two, image)
 }
 
@@ -174,13 +187,14 @@ fn write_due(
 fn writes(t: Tally, slip: u64) -> Tally {
     let mut one = example();
     let mut two = example();
-    let t1 = write_due(t, &mut one, &mut two, 4294967295, 10, &example(), slip);
+    let stale = answered(10, 0, 0);
+    let t1 = write_due(t, &mut one, &mut two, 4294967295, stale, &example(), slip);
     write_due(
         t1,
         &mut one,
         &mut two,
         0,
-        0,
+        answered(0, 1, 5),
         b"\x04\x00\x05\x00\x02\x00\x02\x00\x01\x00\x02\x00\x01\x00\x00\x00\x07\x00\x00\x00\x02\x00\x00\x00\x00\x00\x00\x02\x00\x00\x02\x00\x02\x00\x02\x02\x02\x02\x02\x00",
         slip,
     )
@@ -196,10 +210,55 @@ fn lost(t: Tally, slip: u64) -> Tally {
     image_due(t1, &one, &two, &example())
 }
 
+// I with other bytes in data column 1 and parity column 0.
+fn away_example() -> [u8; 40] {
+    image_of(
+        b"\x04\x00\x05\x00\x02\x00\x02\x00\x01\x00\x02\x00\x00\x00\x00\x00\x07\x00\x00\x00\x02\x00\x01\x00\x00\x00\x4d\x09\x03\xff\x02\x00\x12\x55\x08\xa0\x03\x03\x03\x00",
+    )
+}
+
+// A write of 00 to column 1, row 1 while the columns of a pattern are away: the due answer, and the due image.
+fn away_due(
+    t: Tally,
+    one: &mut [u8],
+    two: &mut [u8],
+    lost: u64,
+    base: u32,
+    answer: Answer,
+    image: &[u8],
+    slip: u64,
+) -> Tally {
+    let mut room = [0u8; 40];
+    let a = of_written(away::write(one, lost, 1, 1, base, b"\x00"));
+    let b = second_lost::write(two, lost, 1, 1, base, b"\x00", &mut room, slip);
+    let t1 = answer_due(t, a, b, answer);
+    image_due(t1, one, two, image)
+}
+
+// Three columns away are MANY, whatever the base. With two away the revision and rows 0 to 2 of parity 1 move: lost
+// columns stay.
+fn away_writes(t: Tally, slip: u64) -> Tally {
+    let mut one = away_example();
+    let mut two = away_example();
+    let many = answered(12, 0, 0);
+    let t1 = away_due(t, &mut one, &mut two, 7, 6, many, &away_example(), slip);
+    away_due(
+        t1,
+        &mut one,
+        &mut two,
+        6,
+        7,
+        answered(0, 8, 3),
+        b"\x04\x00\x05\x00\x02\x00\x02\x00\x01\x00\x02\x00\x00\x00\x00\x00\x08\x00\x00\x00\x02\x00\x01\x00\x00\x00\x4d\x09\x03\xff\x02\x00\x12\x55\x08\xa0\x01\x01\x01\x00",
+        slip,
+    )
+}
+
 // The slips: the calls that each would spoil.
 pub fn slips(t: Tally, slip: u64) -> Tally {
     let t1 = zeroed(t, slip);
     let t2 = exponents(t1, slip);
     let t3 = writes(t2, slip);
-    lost(t3, slip)
+    let t4 = lost(t3, slip);
+    away_writes(t4, slip)
 }

@@ -1,9 +1,12 @@
 // Numbers, shapes, writes and patterns drawn from the number of a case, so that each run has the same ones.
 use second_ground::Shape;
+use second_ground::column_at;
+use second_ground::column_size;
 use second_ground::length;
 use second_ground::rows;
 use second_ground::shaped;
 use total::add;
+use total::bit;
 use total::less;
 use total::low_byte;
 use total::low_half;
@@ -33,6 +36,8 @@ pub const WIDE: usize = 6;
 pub const STRIPS: usize = 7;
 
 pub const WIDEST: usize = 8;
+
+pub const AWAY: usize = 9;
 
 // One turn of a generator by shifts.
 fn stir(x: u64) -> u64 {
@@ -251,9 +256,10 @@ pub fn pattern_of(n: usize, c: usize, size: usize) -> u64 {
 // How many columns are lost in a case of a group: each number up to one too many in turn, or few less than the most.
 pub fn size_of(group: usize, q: Shape, c: usize) -> usize {
     match group {
-        LOST => rest(over(c, 17), add(q.r, 2)),
+        LOST | AWAY => rest(over(c, 17), add(q.r, 2)),
         WIDE => rest(over(c, 3), add(q.r, 2)),
-        _ => less(q.r, over(c, 4)),
+        WIDEST => less(q.r, over(c, 4)),
+        _ => 0,
     }
 }
 
@@ -262,6 +268,20 @@ pub fn lost_of(q: Shape, c: usize, size: usize) -> u64 {
     let n = add(q.k, q.r);
     let high = if seldom(c, 40, 16) { one_at(n) } else { 0 };
     pattern_of(n, c, size) | high
+}
+
+// Puts drawn bytes into column n where a pattern has it.
+fn spoil_column(image: &mut [u8], q: Shape, lost: u64, n: usize, c: usize) {
+    if bit(lost, n) {
+        fill(image, column_at(q, n), column_size(q), add(c, n));
+    }
+}
+
+// Puts drawn bytes into those of the first n columns that a pattern has.
+pub fn spoil_lost(image: &mut [u8], q: Shape, lost: u64, n: usize, c: usize) {
+    for i in 0..n {
+        spoil_column(image, q, lost, i, c);
+    }
 }
 
 // A word that is mostly an element.

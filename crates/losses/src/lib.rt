@@ -1,35 +1,19 @@
 // Lost columns: restore, show and rebuild, by both implementations.
 use comparing::Tally;
+use comparing::make_again;
 use comparing::make_drawn;
 use comparing::noted;
 use comparing::slices_apart;
 use drawing::below;
-use drawing::fill;
 use drawing::seldom;
+use drawing::spoil_lost;
 use second_ground::Shape;
-use second_ground::column_at;
-use second_ground::column_size;
 use second_ground::rows;
 use total::add;
 use total::bit;
 use total::less;
 use total::ones;
 use total::part;
-use total::times;
-
-// Puts drawn bytes into column n where a pattern has it.
-fn spoil_column(image: &mut [u8], q: Shape, lost: u64, n: usize, c: usize) {
-    if bit(lost, n) {
-        fill(image, column_at(q, n), column_size(q), add(c, n));
-    }
-}
-
-// Puts drawn bytes into those of the first n columns that a pattern has.
-fn spoil_lost(image: &mut [u8], q: Shape, lost: u64, n: usize, c: usize) {
-    for i in 0..n {
-        spoil_column(image, q, lost, i, c);
-    }
-}
 
 // Restore and show of a drawn strip, mostly sound.
 pub fn try_strip(t: Tally, q: Shape, c: usize, lost: u64, image: &[u8], room: &mut [u8]) -> Tally {
@@ -59,9 +43,7 @@ fn try_back(
     if ones(lost) > q.r || bit(lost, add(q.k, q.r)) {
         return t;
     }
-    let n = times(q.k, column_size(q));
-    fill(room, 0, n, c);
-    let a = comparing::of_outcome(parity::make(q.p, q.k, q.r, q.b, part(room, 0, n), two));
+    let a = make_again(q, c, two, room);
     noted(t, slices_apart(one, two), a)
 }
 

@@ -185,8 +185,8 @@ fn judged(n: u64, b: u64, slip: u64) -> u64 {
     }
 }
 
-// The refusal of a write to an accepted image, or 0.
-fn unwritten(image: &[u8], q: Shape, column: usize, row: usize, base: u64, width: usize) -> u64 {
+// The refusal of where and how wide a write to an accepted image is, or 0.
+pub fn misplaced(q: Shape, column: usize, row: usize, width: usize) -> u64 {
     if column >= q.k {
         return Refusal::number(Refusal::Column);
     }
@@ -196,7 +196,17 @@ fn unwritten(image: &[u8], q: Shape, column: usize, row: usize, base: u64, width
     if width != q.b {
         return Refusal::number(Refusal::Width);
     }
-    judged(number32(image, add(12, times(4, column))), base, q.slip)
+    0
+}
+
+// Where the revision of a data column stands.
+fn revision_at(column: usize) -> usize {
+    add(12, times(4, column))
+}
+
+// The refusal of the base of a write to a data column, or 0.
+pub fn untimely(image: &[u8], q: Shape, column: usize, base: u32) -> u64 {
+    judged(number32(image, revision_at(column)), base as u64, q.slip)
 }
 
 // Adds the difference that stands in data strip (i, t) to parity; gives how many strips it was added to.
@@ -225,7 +235,25 @@ fn add_strip(image: &mut [u8], at: usize, strip: &[u8], n: usize) {
     }
 }
 
-// Write: the difference stands in the strip's place until parity has it.
+// A write that nothing refuses: the difference stands in the strip's place until parity has it.
+pub fn accept(
+    image: &mut [u8],
+    q: Shape,
+    column: usize,
+    row: usize,
+    base: u32,
+    strip: &[u8],
+) -> Answer {
+    let at = strip_at(q, column, row);
+    add_strip(image, at, strip, q.b);
+    let count = move_parity(image, q, column, row, q.r);
+    copy(image, at, strip, 0, q.b);
+    let revision = low_half(std::num::wrapping_add_u64(base as u64, 1)) as u64;
+    put32(image, revision_at(column), revision);
+    answered(0, revision, count)
+}
+
+// Write.
 pub fn write(
     image: &mut [u8],
     column: usize,
@@ -238,15 +266,13 @@ pub fn write(
     if q.refusal != 0 {
         return answered(q.refusal, 0, 0);
     }
-    let no = unwritten(image, q, column, row, base as u64, strip.len());
-    if no != 0 {
-        return answered(no, 0, 0);
+    let place = misplaced(q, column, row, strip.len());
+    if place != 0 {
+        return answered(place, 0, 0);
     }
-    let at = strip_at(q, column, row);
-    add_strip(image, at, strip, q.b);
-    let count = move_parity(image, q, column, row, q.r);
-    copy(image, at, strip, 0, q.b);
-    let revision = low_half(std::num::wrapping_add_u64(base as u64, 1)) as u64;
-    put32(image, add(12, times(4, column)), revision);
-    answered(0, revision, count)
+    let time = untimely(image, q, column, base);
+    if time != 0 {
+        return answered(time, 0, 0);
+    }
+    accept(image, q, column, row, base, strip)
 }

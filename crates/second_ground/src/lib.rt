@@ -21,6 +21,12 @@ pub const EXPONENTS: u64 = 3;
 pub const PLAIN: u64 = 4;
 // Reading a lost column's bytes.
 pub const READ: u64 = 5;
+// Moving a lost column too.
+pub const MOVED: u64 = 6;
+// Counting lost parity too.
+pub const COUNTED: u64 = 7;
+// Testing MANY after STALE or AHEAD.
+pub const LATE: u64 = 8;
 
 // The number of a refusal or 0, and the numbers beside it.
 pub struct Answer {

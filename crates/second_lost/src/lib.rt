@@ -1,11 +1,19 @@
-// The second implementation's rebuild, restore and show: lost columns come by elimination on bits.
+// The second implementation's rebuild, restore, show and write while columns are lost, by elimination on bits.
 use refusal::Refusal;
+use second::accept;
 use second::add_bytes;
 use second::add_columns;
 use second::all_columns;
+use second::misplaced;
 use second::set_parity;
+use second::untimely;
+use second_ground::Answer;
+use second_ground::COUNTED;
+use second_ground::LATE;
+use second_ground::MOVED;
 use second_ground::READ;
 use second_ground::Shape;
+use second_ground::answered;
 use second_ground::column_at;
 use second_ground::column_size;
 use second_ground::read;
@@ -205,16 +213,26 @@ fn rebuild_lost(image: &mut [u8], q: Shape, lost: u64) {
     set_parity(image, q, lost, q.r);
 }
 
+// Whether a pattern names a column that is not there.
+fn outside(q: Shape, lost: u64) -> bool {
+    lost & all_columns(q) != lost
+}
+
+// Whether a pattern names more columns than may be lost.
+fn many(q: Shape, lost: u64) -> bool {
+    ones(lost) > q.r
+}
+
 // Rebuild.
 pub fn rebuild(image: &mut [u8], lost: u64, slip: u64) -> u64 {
     let q = read(image, slip);
     if q.refusal != 0 {
         return q.refusal;
     }
-    if lost & all_columns(q) != lost {
+    if outside(q, lost) {
         return Refusal::number(Refusal::Column);
     }
-    if ones(lost) > q.r {
+    if many(q, lost) {
         return Refusal::number(Refusal::Many);
     }
     rebuild_lost(image, q, lost);
@@ -227,13 +245,13 @@ fn asked(image: &[u8], lost: u64, column: usize, row: usize, room: usize, slip: 
     if q.refusal != 0 {
         return q;
     }
-    if lost & all_columns(q) != lost || column >= add(q.k, q.r) {
+    if outside(q, lost) || column >= add(q.k, q.r) {
         return unshaped(Refusal::Column);
     }
     if row >= rows(q) {
         return unshaped(Refusal::Row);
     }
-    if ones(lost) > q.r {
+    if many(q, lost) {
         return unshaped(Refusal::Many);
     }
     if room < q.b {
@@ -242,7 +260,13 @@ fn asked(image: &[u8], lost: u64, column: usize, row: usize, room: usize, slip: 
     q
 }
 
-// Restore one strip, by a copy of the image in lent room.
+// Puts a copy of an accepted image into lent room and rebuilds the lost columns there.
+fn complete(image: &[u8], q: Shape, lost: u64, room: &mut [u8]) {
+    copy(room, 0, image, 0, image.len());
+    rebuild_lost(room, q, lost);
+}
+
+// Restore one strip, by a complete copy in lent room.
 pub fn restore(
     image: &[u8],
     lost: u64,
@@ -254,8 +278,7 @@ pub fn restore(
 ) -> u64 {
     let q = asked(image, lost, column, row, scratch.len(), slip);
     if q.refusal == 0 && bit(lost, column) {
-        copy(room, 0, image, 0, image.len());
-        rebuild_lost(room, q, lost);
+        complete(image, q, lost, room);
         copy(scratch, 0, room, strip_at(q, column, row), q.b);
     }
     q.refusal
@@ -283,4 +306,94 @@ pub fn show<'a>(
 pub fn show_refusal(image: &[u8], lost: u64, column: usize, row: usize, scratch: &[u8]) -> u64 {
     let q = asked(image, lost, column, row, scratch.len(), 0);
     q.refusal
+}
+
+// The refusal of a write to an accepted image while columns are lost, or 0.
+fn unwritten(
+    image: &[u8],
+    q: Shape,
+    lost: u64,
+    column: usize,
+    row: usize,
+    base: u32,
+    width: usize,
+) -> u64 {
+    if outside(q, lost) {
+        return Refusal::number(Refusal::Column);
+    }
+    let place = misplaced(q, column, row, width);
+    if place != 0 {
+        return place;
+    }
+    let time = untimely(image, q, column, base);
+    if many(q, lost) && (time == 0 || q.slip != LATE) {
+        return Refusal::number(Refusal::Many);
+    }
+    time
+}
+
+// Brings column n of the complete image back where it is present.
+fn bring_column(image: &mut [u8], room: &[u8], q: Shape, lost: u64, n: usize) {
+    let at = column_at(q, n);
+    if !bit(lost, n) || q.slip == MOVED {
+        copy(image, at, room, at, column_size(q));
+    }
+}
+
+// Brings the present ones of the first n columns back.
+fn bring_columns(image: &mut [u8], room: &[u8], q: Shape, lost: u64, n: usize) {
+    for i in 0..n {
+        bring_column(image, room, q, lost, i);
+    }
+}
+
+// How many strips of present parity data strip (i, t) is part of.
+fn count_present(q: Shape, lost: u64, i: usize, t: usize, r: usize) -> u64 {
+    let mut count = 0;
+    for j in 0..r {
+        if !bit(lost, add(q.k, j)) || q.slip == COUNTED {
+            count = std::num::wrapping_add_u64(count, ones(touched(q, i, t, j)) as u64);
+        }
+    }
+    count
+}
+
+// A write that nothing refuses, to the complete image in lent room; its revisions and present columns come back.
+fn accept_there(
+    image: &mut [u8],
+    q: Shape,
+    lost: u64,
+    column: usize,
+    row: usize,
+    base: u32,
+    strip: &[u8],
+    room: &mut [u8],
+) -> Answer {
+    complete(image, q, lost, room);
+    let whole = accept(room, q, column, row, base, strip);
+    copy(image, 0, room, 0, column_at(q, 0));
+    bring_columns(image, room, q, lost, add(q.k, q.r));
+    answered(0, whole.first, count_present(q, lost, column, row, q.r))
+}
+
+// Write while columns are lost, by a complete copy in lent room.
+pub fn write(
+    image: &mut [u8],
+    lost: u64,
+    column: usize,
+    row: usize,
+    base: u32,
+    strip: &[u8],
+    room: &mut [u8],
+    slip: u64,
+) -> Answer {
+    let q = read(image, slip);
+    if q.refusal != 0 {
+        return answered(q.refusal, 0, 0);
+    }
+    let no = unwritten(image, q, lost, column, row, base, strip.len());
+    if no != 0 {
+        return answered(no, 0, 0);
+    }
+    accept_there(image, q, lost, column, row, base, strip, room)
 }

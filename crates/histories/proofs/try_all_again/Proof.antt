@@ -8,10 +8,10 @@ use Rattle.histories.proofs.try_all_again.Statement.{statement}
 use Rattle.histories.proofs.try_all_again.Tie as tie
 
 abbrev Inv-loop : tie.InvT-loop
-Inv-loop q c image₀ answers n seen₀ s₀ image seen s = (s ≤ n) × (length image ≡ length image₀)
+Inv-loop q c way image₀ answers n seen₀ s₀ image seen s = (s ≤ n) × (length image ≡ length image₀)
 
 abbrev μ-loop : tie.MeasureT-loop
-μ-loop q c image₀ answers n seen₀ s₀ image seen s = n - s
+μ-loop q c way image₀ answers n seen₀ s₀ image seen s = n - s
 
 loop-holds : tie.Need-loop-holds Inv-loop μ-loop
 loop-holds c = search needs

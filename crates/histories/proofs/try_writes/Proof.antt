@@ -8,10 +8,10 @@ use Rattle.histories.proofs.try_writes.Statement.{statement}
 use Rattle.histories.proofs.try_writes.Tie as tie
 
 abbrev Inv-loop : tie.InvT-loop
-Inv-loop q c one₀ two₀ answers₀ n seen₀ w₀ one two answers seen w = (w ≤ n) × (length one ≡ length one₀) × (length two ≡ length two₀)
+Inv-loop q c way one₀ two₀ room₀ answers₀ n seen₀ w₀ one two room answers seen w = (w ≤ n) × (length one ≡ length one₀) × (length two ≡ length two₀) × (length room ≡ length room₀)
 
 abbrev μ-loop : tie.MeasureT-loop
-μ-loop q c one₀ two₀ answers₀ n seen₀ w₀ one two answers seen w = n - w
+μ-loop q c way one₀ two₀ room₀ answers₀ n seen₀ w₀ one two room answers seen w = n - w
 
 loop-holds : tie.Need-loop-holds Inv-loop μ-loop
 loop-holds c = search needs
@@ -34,6 +34,9 @@ same-length c = search needs
 same-length-2 : tie.Need-same-length-2 Inv-loop μ-loop
 same-length-2 c = search needs
 
+same-length-3 : tie.Need-same-length-3 Inv-loop μ-loop
+same-length-3 c = search needs
+
 returns : tie.Need-returns Inv-loop μ-loop
 returns c = search needs
 
@@ -50,4 +53,5 @@ try-writes-spec =
     loop-again
     same-length
     same-length-2
+    same-length-3
     returns)

@@ -1,11 +1,11 @@
--- `losses::spoil_lost` is safe and ends.
+-- `drawing::spoil_lost` is safe and ends.
 -- Assumes nothing.
 use Prim.Native.Nat.{_-_, _≤_}
 use mathlib.Core.Path.{_≡_}
 use lib.ListN.{length}
 use borrow.Author.Needs.{needs}
-use Rattle.losses.proofs.spoil_lost.Statement.{statement}
-use Rattle.losses.proofs.spoil_lost.Tie as tie
+use Rattle.drawing.proofs.spoil_lost.Statement.{statement}
+use Rattle.drawing.proofs.spoil_lost.Tie as tie
 
 abbrev Inv-loop : tie.InvT-loop
 Inv-loop image₀ q lost n c i₀ image i = (i ≤ n) × (length image ≡ length image₀)

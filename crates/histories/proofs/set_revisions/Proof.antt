@@ -1,11 +1,11 @@
--- `histories::start` is safe and ends.
+-- `histories::set_revisions` is safe and ends.
 -- Assumes nothing.
 use Prim.Native.Nat.{_-_, _≤_}
 use mathlib.Core.Path.{_≡_}
 use lib.ListN.{length}
 use borrow.Author.Needs.{needs}
-use Rattle.histories.proofs.start.Statement.{statement}
-use Rattle.histories.proofs.start.Tie as tie
+use Rattle.histories.proofs.set_revisions.Statement.{statement}
+use Rattle.histories.proofs.set_revisions.Tie as tie
 
 abbrev Inv-loop : tie.InvT-loop
 Inv-loop image₀ c n i₀ image i = (i ≤ n) × (length image ≡ length image₀)
@@ -43,8 +43,8 @@ same-length c = search needs
 returns : tie.Need-returns Inv-loop μ-loop
 returns c = search needs
 
-pub start-spec : {M : Type 1} → statement M
-start-spec =
+pub set-revisions-spec : {M : Type 1} → statement M
+set-revisions-spec =
     tie.close
     (tie.spec
     Inv-loop

@@ -1,9 +1,9 @@
--- `examples::tell_refusals` is safe and ends.
+-- `telling::tell_refusals` is safe and ends.
 -- Assumes nothing.
 use Prim.Native.Nat.{_-_, _≤_}
 use borrow.Author.Needs.{needs}
-use Rattle.examples.proofs.tell_refusals.Statement.{statement}
-use Rattle.examples.proofs.tell_refusals.Tie as tie
+use Rattle.telling.proofs.tell_refusals.Statement.{statement}
+use Rattle.telling.proofs.tell_refusals.Tie as tie
 
 abbrev Inv-loop : tie.InvT-loop
 Inv-loop seen n refusal₀ t5 refusal = refusal ≤ n

@@ -1,0 +1,98 @@
+// What the program `examples` writes: names of groups and slips, what was seen, and both reports of a file.
+use comparing::Tally;
+use total::bit;
+
+// Writes a text.
+pub fn say(text: &[u8]) {
+    io::write_all(1, text);
+}
+
+// A number after a space.
+fn number(n: usize) {
+    say(b" ");
+    io::print_decimal(1, n as u64);
+}
+
+// The end of a group's line.
+pub fn tell(t: Tally) {
+    say(b": cases");
+    number(t.cases);
+    say(b" differences");
+    number(t.differences);
+    say(b"\n");
+}
+
+// The name of a group of drawn cases.
+pub fn say_group(group: usize) {
+    match group {
+        drawing::RING => say(b"ring"),
+        drawing::MADE => say(b"make, check, refill"),
+        drawing::UNMADE => say(b"make with wrong numbers or lengths"),
+        drawing::DAMAGED => say(b"damaged images"),
+        drawing::HISTORIES => say(b"histories of writes in two arrangements"),
+        drawing::LOST => say(b"lost columns"),
+        drawing::WIDE => say(b"wide stripes, p = 31"),
+        drawing::STRIPS => say(b"strip lengths"),
+        drawing::WIDEST => say(b"wide stripes, p = 61"),
+        _ => say(b"writes while columns are away"),
+    }
+}
+
+// The numbers below n of the refusals seen.
+pub fn tell_refusals(seen: u64, n: usize) {
+    say(b"refusals seen:");
+    for refusal in 0..n {
+        if refusal > 0 && bit(seen, refusal) {
+            number(refusal);
+        }
+    }
+    say(b"\n");
+}
+
+// The name of a slip.
+fn say_slip(slip: u64) {
+    match slip {
+        second_ground::ZEROED => say(b"planted slip, zeroed form"),
+        second_ground::FORGOTTEN => say(b"planted slip, coefficient p-1 forgotten"),
+        second_ground::EXPONENTS => say(b"planted slip, exponents i and k+j"),
+        second_ground::PLAIN => say(b"planted slip, revisions by plain size"),
+        second_ground::READ => say(b"planted slip, lost bytes read"),
+        second_ground::MOVED => say(b"planted slip, lost column moved"),
+        second_ground::COUNTED => say(b"planted slip, lost parity counted"),
+        _ => say(b"planted slip, MANY after STALE or AHEAD"),
+    }
+}
+
+// A slip's line, by the differences that it makes in the document's examples and in drawn cases.
+pub fn tell_slip(slip: u64, documented: usize, drawn: usize) {
+    say_slip(slip);
+    if documented == 0 {
+        say(b": NOT FOUND by the document's examples\n");
+    } else if drawn == 0 {
+        say(b": NOT FOUND by drawn cases\n");
+    } else {
+        say(b": found\n");
+    }
+}
+
+// Makes a file.
+fn store(path: &[u8], bytes: &[u8]) {
+    let fd = os::create(path);
+    io::write_all(fd, bytes);
+    libc::close(fd);
+}
+
+// Both reports of a file with these bytes.
+pub fn tell_reports(path: &[u8], bytes: &[u8]) {
+    store(path, bytes);
+    say(b"report of ");
+    say(path);
+    say(b"\n");
+    let fd = os::open_read(path);
+    reporting::report(fd);
+    libc::close(fd);
+    say(b"second report of the same\n");
+    let again = os::open_read(path);
+    second_report::report(again);
+    libc::close(again);
+}
