@@ -22,7 +22,8 @@ use Rattle.rebuild.proofs.Independent.{agrees-image}
 use Rattle.rebuild.specs.Agrees.{AgreesOutside}
 use Rattle.rebuild.specs.Lost.{whole-data}
 use Rattle.write.proofs.Accepted.{present-rest, present-revision, present-front, present-strip-here, present-strip-lost, present-strip-elsewhere, present-parity}
-use Rattle.present.proofs.Empty.{none-lost, word-none}
+use Rattle.pattern.proofs.Single.{none-lost}
+use Rattle.present.proofs.Empty.{word-none}
 use Rattle.write.proofs.Empty.{written-none}
 use Rattle.present.specs.Present.{present-word, present-written}
 use Rattle.write.specs.Written.{written, difference}

@@ -1,36 +1,25 @@
 -- "With the empty pattern nothing differs from before."
 -- Assumes nothing.
-use Prim.Native.Nat.{ℕ, _+_, _^_}
-use mathlib.Core.Bool.{true, false}
+use Prim.Native.Nat.{ℕ}
+use mathlib.Core.Bool.{false}
 use mathlib.Core.List.{List}
 use mathlib.Core.Path.{_≡_, refl, sym, ap, ap₂, _∙_, fun-ext}
-use native.Mathlib.Omega.{arith}
 use lib.ListN.{getD}
-use lib.Pow.{pow-pos}
-use borrow.Author.Tests.{lt-ltb, le-leb}
-use Rattle.laws.specs.Bit.{weight}
 use Rattle.laws.specs.Xor.{_⊕_}
 use Rattle.stripe.specs.Reading.{readOf}
 use Rattle.stripe.specs.declared.Params.{Params}
 use Rattle.stripe.specs.declared.Reading.{Reading}
 use Rattle.stripe.specs.declared.Reading.the-variants.{Stripe, Refused as Unread}
-use Rattle.pattern.specs.Pattern.{is-lost, pattern-fits, few-lost}
+use Rattle.pattern.specs.Pattern.{is-lost}
 use Rattle.rebuild.proofs.Whole.{whole-data-present}
 use Rattle.revision.specs.Revision.{renewed}
-use Rattle.present.proofs.Empty.{none-lost, none-weight, count-none}
+use Rattle.pattern.proofs.Single.{none-lost, none-fits, none-few}
+use Rattle.present.proofs.Empty.{count-none}
 use Rattle.write.proofs.Empty.{written-none}
 use Rattle.present.specs.Present.{present-written}
 use Rattle.write.specs.declared.Written.the-variants.{Accepted}
 use Rattle.write.specs.Written.{by-age, difference, written, write-judged, write-sound, write-read, writeOf}
 use Rattle.away.specs.Away.{away-difference, away-written, away-judged, away-sound, away-read, awayOf}
-
-none-fits : (q : Params) → pattern-fits q 0 ≡ true
-unfolding pattern-fits
-none-fits q = lt-ltb 0 (2 ^ (q .k + q .r)) (pow-pos (q .k + q .r))
-
-none-few : (q : Params) → few-lost q 0 ≡ true
-unfolding few-lost
-none-few q = le-leb (weight 0 (q .k + q .r)) (q .r) (omega (arith, none-weight (q .k + q .r)))
 
 -- the strip of a present column is the image's
 pub difference-there : (s : List ℕ) (q : Params) (m i t : ℕ) (v : List ℕ) → is-lost m i ≡ false → (x : ℕ) → difference s q i t v x ≡ away-difference s q m i t v x

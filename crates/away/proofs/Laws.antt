@@ -1,13 +1,12 @@
 -- What the inner functions of a write with lost columns owe, over plain numbers and lists.
 -- Assumes nothing.
 use Prim.Native.Nat.{ℕ, _+_, _-_, _*_, _<_, _≤_}
-use mathlib.Core.Bool.{Bool, true, false, _&&_, not}
+use mathlib.Core.Bool.{Bool, true, false}
 use mathlib.Core.List.{List}
 use mathlib.Core.Path.{_≡_, refl, sym, ap, ap₂, subst, _∙_, fun-ext}
 use native.Mathlib.Omega.{arith}
-use lib.Dec.{ltb}
 use lib.ListN.{length, getD, take, drop}
-use borrow.Author.Tests.{lt-ltb, not-false, not-true}
+use borrow.Author.Tests.{lt-ltb}
 use Rattle.laws.proofs.Choose.{true-T}
 use Rattle.laws.proofs.Part.{length-part, getD-part, length-put}
 use Rattle.laws.proofs.Patch.{patched, patch-all}
@@ -21,7 +20,7 @@ use Rattle.stripe.proofs.Frame.{image-data}
 use Rattle.stripe.proofs.Places.{strip-from, strip-in, parity-in, parity-end}
 use Rattle.stripe.specs.Layout.{column-length, image-length, parity-from, revision-at, strip-at}
 use Rattle.stripe.specs.declared.Params.{Params}
-use Rattle.pattern.specs.Pattern.{is-lost, pattern-fits, few-lost}
+use Rattle.pattern.specs.Pattern.{is-lost, few-lost}
 use Rattle.rebuild.specs.Inner.{Strip-lost}
 use Rattle.rebuild.specs.Lost.{whole-byte, whole-data}
 use Rattle.revision.specs.Revision.{renewed}
@@ -37,15 +36,6 @@ use Rattle.away.proofs.Back.{comes-back}
 use Rattle.away.proofs.Empty.{difference-there}
 use Rattle.away.specs.Away.{away-difference, away-written, away-judged}
 use Rattle.away.specs.Steps.{Away, restored-in, Back, Away-placed}
-
--- ---- the tests of COLUMN
-
-module _ (q : Params) (m n : ℕ) (x : Bool) (g : x ≡ pattern-fits q m) where
-  pub within-not : not x ≡ true → false ≡ (pattern-fits q m && ltb n (q .k))
-  within-not h = let z : pattern-fits q m ≡ false = sym g ∙ not-true x h in rw z
-
-  pub within-is : not x ≡ false → ltb n (q .k) ≡ (pattern-fits q m && ltb n (q .k))
-  within-is h = let z : pattern-fits q m ≡ true = sym g ∙ not-false x h in rw z
 
 -- ---- a strip of a present column: x is whether it is lost
 

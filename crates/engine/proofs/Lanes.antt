@@ -79,11 +79,11 @@ cut-lt m k x e = subst (λ (y : ℕ). y < 2 ^ k) (sym e) (mod-lt m (pow-pos k))
 power-is : (j : ℕ) → 2 ^ j ≡ 1 * 2 ^ j + 0
 power-is j = omega arith
 
-power-bit : (j : ℕ) → bit (2 ^ j) j ≡ 1
+pub power-bit : (j : ℕ) → bit (2 ^ j) j ≡ 1
 unfolding bit
 power-bit j = ap (λ (x : ℕ). x / 2 ^ j % 2) (power-is j) ∙ ap (λ (x : ℕ). x % 2) (high 1 j (pow-pos j))
 
-power-rest : (j i : ℕ) → i ≢ j → bit (2 ^ j) i ≡ 0
+pub power-rest : (j i : ℕ) → i ≢ j → bit (2 ^ j) i ≡ 0
 power-rest j i h = ap (λ (x : ℕ). bit x i) (power-is j) ∙ go (place j 1 i)
   where
     go : Place j 1 i → bit (1 * 2 ^ j + 0) i ≡ 0

@@ -55,11 +55,11 @@ no t u e f = sym e ∙ not-true t f
 yes-it-is : (t u : Bool) → t ≡ u → not t ≡ false → u ≡ true
 yes-it-is t u e f = sym e ∙ not-false t f
 
-module _ (q : Params) (m n : ℕ) (x : Bool) (g : x ≡ pattern-fits q m) where
-  pub within-not : not x ≡ true → false ≡ (pattern-fits q m && ltb n (q .k + q .r))
+module _ (q : Params) (m n c : ℕ) (x : Bool) (g : x ≡ pattern-fits q m) where
+  pub within-not : not x ≡ true → false ≡ (pattern-fits q m && ltb n c)
   within-not h = simp (no x (pattern-fits q m) g h)
 
-  pub within-is : not x ≡ false → ltb n (q .k + q .r) ≡ (pattern-fits q m && ltb n (q .k + q .r))
+  pub within-is : not x ≡ false → ltb n c ≡ (pattern-fits q m && ltb n c)
   within-is h = simp (yes-it-is x (pattern-fits q m) g h)
 
 module _ (q : Params) (m n t room : ℕ) (x : Bool) (g : x ≡ (pattern-fits q m && ltb n (q .k + q .r))) where

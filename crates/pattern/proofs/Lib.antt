@@ -2,3 +2,4 @@ pub mod Marks
 pub mod Count
 pub mod Asking
 pub mod Collecting
+pub mod Single

@@ -1,11 +1,11 @@
 -- What the inner functions ask and leave.
 -- Assumes nothing.
-use Prim.Native.Nat.{_+_, _<_, ℕ}
+use Prim.Native.Nat.{_+_, _<_, _≤_, ℕ}
 use mathlib.Core.List.{List}
 use mathlib.Core.Path.{_≡_}
 use lib.Dec.{eqb}
 use lib.ListN.{length, take}
-use Rattle.laws.specs.Bit.{bit}
+use Rattle.laws.specs.Bit.{bit, weight}
 use Rattle.laws.specs.Part.{table}
 use Rattle.algebra.specs.Recovery.{lost}
 use Rattle.stripe.specs.Layout.{rows}
@@ -26,3 +26,7 @@ named m want base n = lost (table n (λ i. eqb (bit m i) want)) (table n (λ i. 
 pub record Begins (l x : List ℕ) : Type 0 where
   pub len : length x ≡ 60
   pub front : take (length l) x ≡ l
+
+-- m names one column or none
+abbrev pub Single : ℕ → Type 0
+Single m = (n : ℕ) → weight m n ≤ 1

@@ -4,7 +4,7 @@ use stripe::Params;
 use stripe::Reading;
 ghost use mathlib.Core.Path.{_≡_};
 ghost use Prim.Native.Nat.{_+_, _<_, _≤_};
-ghost use mathlib.Core.Bool.{_&&_};
+ghost use mathlib.Core.Bool.{true, _&&_};
 ghost use lib.Dec.{ltb, eqb};
 ghost use lib.ListN.{length};
 ghost use Rattle.laws.specs.Choose.{choose};
@@ -12,7 +12,7 @@ ghost use Rattle.laws.specs.Bit.{bit, weight};
 ghost use Rattle.stripe.specs.Params.{Admitted};
 ghost use Rattle.stripe.specs.declared.Reading.the-variants.{Stripe};
 ghost use Rattle.pattern.specs.Pattern.{is-lost, lost-exponents, present-exponents, consulted, pattern-fits, few-lost, asked-read, asked};
-ghost use Rattle.pattern.specs.Inner.{named, Begins};
+ghost use Rattle.pattern.specs.Inner.{named, Begins, Single};
 
 // Whether the pattern names column n.
 pub fn is_lost(lost: u64, n: usize) -> bool
@@ -55,11 +55,24 @@ fn is_within(q: Params, lost: u64, column: usize) -> bool
     column < q.k + q.r
 }
 
-// Whether no more columns are lost than there are parity columns.
+// Whether the pattern names one column or none.
+fn is_single(lost: u64) -> bool
+    ensures { λ x. ⌜ (x ≡ true → Single lost) ⌝ }
+{
+    if lost == 0 {
+        return true;
+    }
+    lost & (lost - 1) == 0
+}
+
+// Whether no more columns are lost than there are parity columns, of which there is one at least.
 pub fn is_few(q: Params, lost: u64) -> bool
     requires { ⌜ Admitted q ⌝ }
     ensures { λ x. ⌜ x ≡ few-lost q lost ⌝ }
 {
+    if is_single(lost) {
+        return true;
+    }
     lost_below(lost, q.k + q.r) <= q.r
 }
 

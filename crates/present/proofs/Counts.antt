@@ -13,7 +13,7 @@ use Rattle.stripe.specs.declared.Params.{Params}
 use Rattle.block.proofs.Touching.{touches-each}
 use Rattle.block.specs.Touches.{touch-word}
 use Rattle.pattern.specs.Pattern.{is-lost}
-use Rattle.present.proofs.Empty.{none-weight}
+use Rattle.pattern.proofs.Single.{weight-zero}
 use Rattle.present.specs.Present.{present-word, present-count, present-parities}
 
 -- each of n numbers f j lies from g j to g j * c
@@ -31,7 +31,7 @@ module _ (q : Params) (m i t : ℕ) (a : Admitted q) (hi : i < q .k) (ht : t < r
   each j h = go (is-lost m (q .k + j))
     where
       go : (c : Bool) → (choose c 0 1 ≤ weight (choose c 0 (touch-word q i t j)) (rows q)) × (weight (choose c 0 (touch-word q i t j)) (rows q) ≤ choose c 0 1 * rows q)
-      go true = (omega arith, omega (arith, none-weight (rows q)))
+      go true = (omega arith, omega (arith, weight-zero (rows q)))
       go false = (touches-each q i t j a hi ht h, omega (arith, weight-most (touch-word q i t j) (rows q)))
 
   bounds : (present-parities q m ≤ present-count q m i t) × (present-count q m i t ≤ present-parities q m * rows q)

@@ -1,24 +1,14 @@
 -- "With the empty pattern nothing differs from before.": which parity strips are touched.
 -- Assumes nothing.
-use Prim.Native.Nat.{ℕ, zero, suc, _+_}
-use mathlib.Core.Bool.{false}
-use mathlib.Core.Path.{_≡_, ap, _∙_, fun-ext}
-use Rattle.laws.proofs.Bit.{bit-zero}
+use Prim.Native.Nat.{ℕ, _+_}
+use mathlib.Core.Path.{_≡_, ap, fun-ext}
 use Rattle.laws.specs.Bit.{weight}
 use Rattle.laws.specs.Sum.{total}
 use Rattle.stripe.specs.Layout.{rows}
 use Rattle.stripe.specs.declared.Params.{Params}
 use Rattle.block.specs.Touches.{touch-word, count}
-use Rattle.pattern.proofs.Count.{weight-none, weight-mark}
-use Rattle.pattern.specs.Pattern.{is-lost}
+use Rattle.pattern.proofs.Single.{none-lost}
 use Rattle.present.specs.Present.{present-word, present-count}
-
-pub none-lost : (n : ℕ) → is-lost 0 n ≡ false
-none-lost n = rw bit-zero
-
-pub none-weight : (n : ℕ) → weight 0 n ≡ 0
-none-weight zero = weight-none 0
-none-weight (suc n) = weight-mark 0 n ∙ rw (none-lost n, none-weight n)
 
 pub word-none : (q : Params) (i t j : ℕ) → present-word q 0 i t j ≡ touch-word q i t j
 unfolding present-word

@@ -1,15 +1,13 @@
 -- "From a right stripe any set of at most r lost columns is rebuilt to the byte, without use of what the lost columns held. Larger sets are refused."
 -- Assumes nothing.
-use Prim.Native.Nat.{ℕ, _+_, _<_, zero, suc, _^_, _≤_}
+use Prim.Native.Nat.{ℕ, _+_, _<_}
 use mathlib.Core.Bool.{Bool, true, false}
 use mathlib.Core.List.{List}
 use mathlib.Core.Path.{_≡_, sym, _∙_, refl, ap}
 use native.Mathlib.Omega.{arith}
 use lib.Dec.{T}
 use lib.ListN.{length, getD}
-use lib.Pow.{pow-pos}
-use borrow.Author.Tests.{lt-leb, lt-ltb}
-use Rattle.laws.proofs.Bit.{bit-zero}
+use borrow.Author.Tests.{lt-leb}
 use Rattle.laws.proofs.Choose.{T-true}
 use Rattle.laws.specs.Bit.{weight}
 use Rattle.laws.specs.Choose.{choose}
@@ -22,7 +20,8 @@ use Rattle.block.proofs.Touching.{due-agree}
 use Rattle.block.specs.Parity.{due, Right}
 use Rattle.refusal.specs.declared.Outcome.the-variants.{Done, Refused}
 use Rattle.rebuild.proofs.Cells.{is-rebuilt, rebuilt-length, rebuilt-front, rebuilt-count}
-use Rattle.pattern.proofs.Count.{length-consulted, rising-at, consulted-rising, weight-none, weight-mark, is-few}
+use Rattle.pattern.proofs.Count.{length-consulted, rising-at, consulted-rising}
+use Rattle.pattern.proofs.Single.{none-lost, none-fits, none-few}
 use Rattle.rebuild.proofs.Independent.{rebuilt-agrees, agrees-image}
 use Rattle.promises.proofs.Solved.{whole-only}
 use Rattle.rebuild.specs.Agrees.{AgreesOutside}
@@ -65,9 +64,6 @@ rebuilt-image s q m i =
     image-same s (rebuilt s q m) q i (rebuilt-length s q m (i .len))
     (λ o h. rebuilt-front s q m (i .len) o (omega arith)) (λ o h k. rebuilt-front s q m (i .len) o k) (rebuilt-count s q m (i .len))
 
-none-lost : (n : ℕ) → is-lost 0 n ≡ false
-none-lost n = rw bit-zero
-
 -- "The empty pattern .. changes nothing."
 pub rebuilt-none : (s : List ℕ) (q : Params) → Image s q → rebuilt s q 0 ≡ s
 unfolding whole-data whole-parity
@@ -92,14 +88,7 @@ unfolding rebuildOf rebuild-read few-lost
 rebuild-refuses s q m i p h =
     ap (rebuild-read s m) (sym (image-read s q i)) ∙ rw (T-true (pattern-fits q m) p, lt-leb (weight m (q .k + q .r)) (q .r) h)
 
-none-weight : (n : ℕ) → weight 0 n ≡ 0
-none-weight zero = weight-none 0
-none-weight (suc n) = weight-mark 0 n ∙ rw (none-lost n, none-weight n)
-
 -- "The empty pattern is accepted and changes nothing."
 pub rebuild-empty : (s : List ℕ) (q : Params) → Image s q → rebuildOf s 0 ≡ record { answer = Done; image = s }
-unfolding rebuildOf rebuild-read pattern-fits
-rebuild-empty s q i =
-    let f : weight 0 (q .k + q .r) ≤ q .r = omega (arith, none-weight (q .k + q .r)) in
-    ap (rebuild-read s 0) (sym (image-read s q i))
-    ∙ rw (lt-ltb 0 (2 ^ (q .k + q .r)) (pow-pos (q .k + q .r)), T-true (few-lost q 0) (is-few q 0 f), rebuilt-none s q i)
+unfolding rebuildOf rebuild-read
+rebuild-empty s q i = ap (rebuild-read s 0) (sym (image-read s q i)) ∙ rw (none-fits q, none-few q, rebuilt-none s q i)

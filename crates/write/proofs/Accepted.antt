@@ -32,7 +32,8 @@ use Rattle.stripe.specs.declared.Params.{Params}
 use Rattle.block.specs.Touches.{touches}
 use Rattle.revision.specs.Revision.{renewed, judged, distance}
 use Rattle.pattern.specs.Pattern.{is-lost}
-use Rattle.present.proofs.Empty.{none-lost, word-none}
+use Rattle.pattern.proofs.Single.{none-lost}
+use Rattle.present.proofs.Empty.{word-none}
 use Rattle.write.proofs.Empty.{written-none}
 use Rattle.present.specs.Present.{present-word, present-moved, present-placed, present-written}
 use Rattle.write.specs.Steps.{Kept}

@@ -1,9 +1,8 @@
 -- "With the empty pattern nothing differs from before.": what an accepted write leaves.
 -- Assumes nothing.
 use Prim.Native.Nat.{ℕ, _+_, _*_, _/_, _%_}
-use mathlib.Core.Bool.{false}
 use mathlib.Core.List.{List}
-use mathlib.Core.Path.{_≡_, sym, ap, ap₂, _∙_, fun-ext}
+use mathlib.Core.Path.{_≡_, ap, ap₂, _∙_, fun-ext}
 use lib.ListN.{getD}
 use Rattle.laws.specs.Bit.{bit}
 use Rattle.laws.specs.Number.{put32}
@@ -14,12 +13,12 @@ use Rattle.laws.specs.Xor.{_⊕_}
 use Rattle.stripe.specs.Layout.{column-length, parity-from, revision-at, strip-at}
 use Rattle.stripe.specs.declared.Params.{Params}
 use Rattle.block.specs.Touches.{touches}
-use Rattle.pattern.specs.Pattern.{is-lost}
 use Rattle.revision.specs.Revision.{renewed}
 use Rattle.revision.specs.declared.Age.the-variants.{Current}
 use Rattle.write.specs.declared.Written.the-variants.{Accepted}
-use Rattle.present.specs.Present.{present-moved, present-placed, present-written, present-count}
-use Rattle.present.proofs.Empty.{none-lost, word-none, count-none}
+use Rattle.present.specs.Present.{present-moved, present-placed, present-written}
+use Rattle.pattern.proofs.Single.{none-lost}
+use Rattle.present.proofs.Empty.{word-none, count-none}
 use Rattle.write.specs.Steps.{Placed, settled}
 use Rattle.write.specs.Written.{difference, moved, written, write-judged}
 
@@ -29,29 +28,24 @@ moved-none s q i t v o =
     ap (λ (w : ℕ). getD s (parity-from q + o) 0 ⊕ pick (bit w (o % column-length q / q .b)) (difference s q i t v (o % column-length q % q .b)))
     (word-none q i t (o / column-length q))
 
--- the strip in place of a present column
-placed-there : (s : List ℕ) (q : Params) (m i t : ℕ) (v : List ℕ) → is-lost m i ≡ false → present-placed s q m i t v ≡ put s (strip-at q i t) v
+-- the strip placed where no column is lost
+strip-none : (s : List ℕ) (q : Params) (i t : ℕ) (v : List ℕ) → present-placed s q 0 i t v ≡ put s (strip-at q i t) v
 unfolding present-placed
-placed-there s q m i t v e = rw e
+strip-none s q i t v = rw (none-lost i)
 
--- a strip placed in a present column, and its revision
-pub there-settled : (s u : List ℕ) (q : Params) (m i t b : ℕ) (v : List ℕ) (n : ℕ) → is-lost m i ≡ false → Placed s u q m i t v n
-    → settled u i b n ≡ record { answer = Accepted (renewed b) (present-count q m i t); image = present-written s q m i t b v (difference s q i t v) }
-unfolding settled present-written
-there-settled s u q m i t b v n e P =
-    let p : List ℕ = patch s (parity-from q) (q .r * column-length q) (present-moved s q m i t (difference s q i t v)) in
-    ap₂ (λ (c : ℕ) (l : List ℕ). record { answer = Accepted (renewed b) c; image = put32 l (revision-at i) (renewed b) }) (P .counted)
-    (P .bytes ∙ sym (placed-there p q m i t v e))
+-- all parity moved
+parity-none : (s : List ℕ) (q : Params) (i t : ℕ) (v : List ℕ)
+    → patch s (parity-from q) (q .r * column-length q) (present-moved s q 0 i t (difference s q i t v)) ≡ patch s (parity-from q) (q .r * column-length q) (moved s q i t v)
+parity-none s q i t v = ap (patch s (parity-from q) (q .r * column-length q)) (fun-ext (moved-none s q i t v))
 
 pub written-none : (s : List ℕ) (q : Params) (i t b : ℕ) (v : List ℕ) → present-written s q 0 i t b v (difference s q i t v) ≡ written s q i t b v
 unfolding present-written written
 written-none s q i t b v =
     let u : List ℕ = patch s (parity-from q) (q .r * column-length q) (present-moved s q 0 i t (difference s q i t v)) in
-    ap (λ (l : List ℕ). put32 l (revision-at i) (renewed b)) (placed-there u q 0 i t v (none-lost i))
-    ∙ ap (λ (f : ℕ → ℕ). put32 (put (patch s (parity-from q) (q .r * column-length q) f) (strip-at q i t) v) (revision-at i) (renewed b)) (fun-ext (moved-none s q i t v))
+    ap (λ (l : List ℕ). put32 l (revision-at i) (renewed b)) (strip-none u q i t v ∙ ap (λ (l : List ℕ). put l (strip-at q i t) v) (parity-none s q i t v))
 
 pub none-settled : (s u : List ℕ) (q : Params) (i t b : ℕ) (v : List ℕ) (n : ℕ) → Placed s u q 0 i t v n → settled u i b n ≡ write-judged s q i t b v Current
-unfolding write-judged
+unfolding write-judged settled written
 none-settled s u q i t b v n P =
-    there-settled s u q 0 i t b v n (none-lost i) P
-    ∙ ap₂ (λ (c : ℕ) (l : List ℕ). record { answer = Accepted (renewed b) c; image = l }) (count-none q i t) (written-none s q i t b v)
+    ap₂ (λ (c : ℕ) (l : List ℕ). record { answer = Accepted (renewed b) c; image = put32 l (revision-at i) (renewed b) }) (P .counted ∙ count-none q i t)
+    (P .bytes ∙ ap (λ (l : List ℕ). put l (strip-at q i t) v) (parity-none s q i t v))
