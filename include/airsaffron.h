@@ -13,7 +13,8 @@
  * where each count has 16 bits. Its length is L = 16 + 4k + (k+r)(p-1)B.
  *
  * ANSWERS. Each call answers three numbers by value. `refusal` is 0 where the call is accepted, else one of the numbers below; then
- * `first` and `second` are 0 and no lent byte has changed. A call says what its `first` and `second` are; what it does not name is 0.
+ * no lent byte has changed, and `first` and `second` are 0, but for STALE and AHEAD, whose `first` says how far the base is behind or
+ * ahead. A call says what its `first` and `second` are where it is accepted; what it does not name is 0.
  * No call asks anything of its numbers: any are taken, and bad ones are refused. Where several refusals are due, the first in the
  * order that the call gives is answered.
  *
@@ -51,8 +52,8 @@ enum {
     AIRSAFFRON_WIDTH = 7,     /* data or new strip of wrong length */
     AIRSAFFRON_COLUMN = 8,    /* write: column not below k; pattern or shown column not below k+r */
     AIRSAFFRON_ROW = 9,       /* row not below p-1 */
-    AIRSAFFRON_STALE = 10,    /* base older */
-    AIRSAFFRON_AHEAD = 11,    /* base newer */
+    AIRSAFFRON_STALE = 10,    /* base older; first: how many revisions behind, 1 to 2^31 */
+    AIRSAFFRON_AHEAD = 11,    /* base newer; first: how many revisions ahead, 1 to 2^31 - 1 */
     AIRSAFFRON_MANY = 12,     /* more than r columns lost */
     AIRSAFFRON_ROOM = 13,     /* make: buffer not L bytes; scratch below B */
     AIRSAFFRON_LONG = 14,     /* report program only, no call here: input above 65,536 bytes */
@@ -114,7 +115,8 @@ airsaffron_answer airsaffron_check(const uint8_t *image, size_t image_length);
  * Writes a strip of B bytes to row `row` of data column `column`, where `base` is the column's revision: puts it in place, adds its difference to
  * parity, and sets the revision to base + 1 modulo 2^32.
  * first: the new revision; second: how many parity strips the difference was added to. Refusals: reading, COLUMN, ROW, WIDTH, then STALE where
- * base is 1 to 2^31 behind the revision modulo 2^32, AHEAD where it is any other.
+ * base is 1 to 2^31 behind the revision modulo 2^32, AHEAD where it is any other. With STALE first is that distance d: where so many writes to the
+ * column were accepted since `base` was its revision, the base is that many notes behind. With AHEAD first is 2^32 - d.
  */
 airsaffron_answer airsaffron_write(uint8_t *image, size_t image_length, uint64_t column, uint64_t row, uint32_t base, const uint8_t *strip,
                                    size_t strip_length);
@@ -124,7 +126,7 @@ airsaffron_answer airsaffron_write(uint8_t *image, size_t image_length, uint64_t
  * complete image, and what lost columns held does not matter. Where `column` itself is lost its old strip is restored first, and only present parity
  * and the revision move. Bytes of lost columns stay. With `lost` 0 it is `airsaffron_write`.
  * first: the new revision; second: how many strips of present parity columns the difference was added to. Refusals: reading, COLUMN for `column` or
- * a bit of `lost`, ROW, WIDTH, MANY, then STALE or AHEAD.
+ * a bit of `lost`, ROW, WIDTH, MANY, then STALE or AHEAD with the distance as first.
  */
 airsaffron_answer airsaffron_write_away(uint8_t *image, size_t image_length, uint64_t lost, uint64_t column, uint64_t row, uint32_t base,
                                         const uint8_t *strip, size_t strip_length);

@@ -247,9 +247,10 @@ static void test_check(void) {
 
 /* ---- write */
 
-static void write_refuses(lent s, uint64_t column, uint64_t row, uint32_t base, size_t n, uint64_t refusal, const char *what) {
+/* `distance`: how far the base is behind or ahead, 0 beside a refusal that is not STALE or AHEAD */
+static void write_refuses(lent s, uint64_t column, uint64_t row, uint32_t base, size_t n, uint64_t refusal, uint64_t distance, const char *what) {
     lent v = lend(NULL, n);
-    expect_answer(airsaffron_write(s.at, s.length, column, row, base, v.at, v.length), refusal, 0, 0, what);
+    expect_answer(airsaffron_write(s.at, s.length, column, row, base, v.at, v.length), refusal, distance, 0, what);
     expect(unchanged(s) && unchanged(v), what);
     take_back(v);
     take_back(s);
@@ -280,8 +281,8 @@ static void test_write(void) {
     expect(holds_bytes(s, due), "rows 0 and 2 of parity 0 move");
     take_back(s);
 
-    write_refuses(lend(I, I_LENGTH), 1, 1, 6, 1, AIRSAFFRON_STALE, "P10 base 6");
-    write_refuses(lend(I, I_LENGTH), 1, 1, 8, 1, AIRSAFFRON_AHEAD, "P11 base 8");
+    write_refuses(lend(I, I_LENGTH), 1, 1, 6, 1, AIRSAFFRON_STALE, 1, "P10 base 6");
+    write_refuses(lend(I, I_LENGTH), 1, 1, 8, 1, AIRSAFFRON_AHEAD, 1, "P11 base 8");
 
     s = lend(I, I_LENGTH);
     memset(s.at + REVISION_1, 0xFF, 4);
@@ -289,16 +290,36 @@ static void test_write(void) {
     expect(s.at[REVISION_1] == 0 && s.at[REVISION_1 + 1] == 0 && s.at[REVISION_1 + 2] == 0 && s.at[REVISION_1 + 3] == 0, "P12 revision 0");
     take_back(s);
 
-    write_refuses(lend(I, I_LENGTH), 0, 1, UINT32_MAX, 1, AIRSAFFRON_STALE, "P13 revision 0, base 4294967295");
-    write_refuses(lend(I, I_LENGTH), 0, 0, UINT32_C(0x80000000), 1, AIRSAFFRON_STALE, "2^31 behind");
-    write_refuses(lend(I, I_LENGTH), 0, 0, UINT32_C(0x7FFFFFFF), 1, AIRSAFFRON_AHEAD, "2^31 + 1 behind");
-    write_refuses(lend(I, I_LENGTH), 2, 4, 9, 2, AIRSAFFRON_COLUMN, "write COLUMN before ROW");
-    write_refuses(lend(I, I_LENGTH), UINT64_MAX, 0, 0, 1, AIRSAFFRON_COLUMN, "column 2^64 - 1");
-    write_refuses(lend(I, I_LENGTH), 1, 4, 9, 2, AIRSAFFRON_ROW, "write ROW before WIDTH");
-    write_refuses(lend(I, I_LENGTH), 1, 3, 9, 2, AIRSAFFRON_WIDTH, "write WIDTH before AHEAD");
-    write_refuses(lend(I, I_LENGTH), 1, 3, 7, 0, AIRSAFFRON_WIDTH, "an empty strip");
+    write_refuses(lend(I, I_LENGTH), 0, 1, UINT32_MAX, 1, AIRSAFFRON_STALE, 1, "P13 revision 0, base 4294967295");
+    write_refuses(lend(I, I_LENGTH), 0, 0, UINT32_C(0x80000000), 1, AIRSAFFRON_STALE, UINT64_C(0x80000000), "2^31 behind");
+    write_refuses(lend(I, I_LENGTH), 0, 0, UINT32_C(0x7FFFFFFF), 1, AIRSAFFRON_AHEAD, UINT64_C(0x7FFFFFFF), "2^31 + 1 behind");
+    write_refuses(lend(I, I_LENGTH), 0, 0, UINT32_C(0x80000001), 1, AIRSAFFRON_STALE, UINT64_C(0x7FFFFFFF), "2^31 - 1 behind");
+    write_refuses(lend(I, I_LENGTH), 1, 0, 0, 1, AIRSAFFRON_STALE, 7, "base 0 of revision 7");
+    write_refuses(lend(I, I_LENGTH), 1, 0, UINT32_MAX, 1, AIRSAFFRON_STALE, 8, "base 4294967295 of revision 7");
+    write_refuses(lend(I, I_LENGTH), 2, 4, 9, 2, AIRSAFFRON_COLUMN, 0, "write COLUMN before ROW");
+    write_refuses(lend(I, I_LENGTH), UINT64_MAX, 0, 0, 1, AIRSAFFRON_COLUMN, 0, "column 2^64 - 1");
+    write_refuses(lend(I, I_LENGTH), 1, 4, 9, 2, AIRSAFFRON_ROW, 0, "write ROW before WIDTH");
+    write_refuses(lend(I, I_LENGTH), 1, 3, 9, 2, AIRSAFFRON_WIDTH, 0, "write WIDTH before AHEAD");
+    write_refuses(lend(I, I_LENGTH), 1, 3, 7, 0, AIRSAFFRON_WIDTH, 0, "an empty strip");
     take_back(v);
     take_back(f);
+}
+
+/* Three writes to column 1 are accepted, one to column 0 too, and the base that was current at first is three notes behind, by either call. */
+static void test_notes_behind(void) {
+    lent s = lend(I, I_LENGTH), v = lend(NULL, 1);
+    uint32_t n;
+    for (n = 7; n < 10; n++) {
+        expect(airsaffron_write(s.at, s.length, 1, n - 7, n, v.at, v.length).first == n + 1, "a note to column 1");
+    }
+    expect(airsaffron_write(s.at, s.length, 0, 0, 0, v.at, v.length).refusal == 0, "a note to column 0");
+    memcpy(s.was, s.at, I_LENGTH);
+    expect_answer(airsaffron_write(s.at, s.length, 1, 3, 7, v.at, v.length), AIRSAFFRON_STALE, 3, 0, "three notes behind");
+    expect_answer(airsaffron_write_away(s.at, s.length, 6, 1, 3, 7, v.at, v.length), AIRSAFFRON_STALE, 3, 0, "three notes behind, away");
+    expect_answer(airsaffron_write(s.at, s.length, 1, 3, 13, v.at, v.length), AIRSAFFRON_AHEAD, 3, 0, "three notes ahead");
+    expect(unchanged(s), "and nothing changes");
+    take_back(s);
+    take_back(v);
 }
 
 /* ---- rebuild, restore and show */
@@ -343,9 +364,10 @@ static void test_rebuild(void) {
 
 /* ---- write while columns are away */
 
-static void away_refuses(uint64_t lost, uint64_t column, uint64_t row, uint32_t base, size_t n, uint64_t refusal, const char *what) {
+static void away_refuses(uint64_t lost, uint64_t column, uint64_t row, uint32_t base, size_t n, uint64_t refusal, uint64_t distance,
+                         const char *what) {
     lent s = spoilt(lost & 15), v = lend(NULL, n);
-    expect_answer(airsaffron_write_away(s.at, s.length, lost, column, row, base, v.at, v.length), refusal, 0, 0, what);
+    expect_answer(airsaffron_write_away(s.at, s.length, lost, column, row, base, v.at, v.length), refusal, distance, 0, what);
     expect(unchanged(s) && unchanged(v), what);
     take_back(s);
     take_back(v);
@@ -389,18 +411,18 @@ static void test_write_away(void) {
             }
         }
     }
-    away_refuses(UINT64_MAX, 1, 1, 7, 1, AIRSAFFRON_COLUMN, "a pattern of 64 bits");
-    away_refuses(16, 1, 4, 9, 2, AIRSAFFRON_COLUMN, "pattern COLUMN before ROW");
-    away_refuses(7, 2, 4, 9, 2, AIRSAFFRON_COLUMN, "column 2 is parity");
-    away_refuses(1, UINT64_MAX, 0, 0, 1, AIRSAFFRON_COLUMN, "column 2^64 - 1 away");
-    away_refuses(7, 1, 4, 9, 2, AIRSAFFRON_ROW, "away ROW before WIDTH");
-    away_refuses(1, 1, UINT64_MAX, 7, 1, AIRSAFFRON_ROW, "row 2^64 - 1 away");
-    away_refuses(7, 1, 3, 9, 2, AIRSAFFRON_WIDTH, "away WIDTH before MANY");
-    away_refuses(2, 1, 3, 7, 0, AIRSAFFRON_WIDTH, "an empty strip away");
-    away_refuses(7, 1, 3, 6, 1, AIRSAFFRON_MANY, "MANY before STALE");
-    away_refuses(14, 1, 3, 8, 1, AIRSAFFRON_MANY, "MANY before AHEAD");
-    away_refuses(6, 1, 3, 6, 1, AIRSAFFRON_STALE, "away base 6");
-    away_refuses(6, 1, 3, 8, 1, AIRSAFFRON_AHEAD, "away base 8");
+    away_refuses(UINT64_MAX, 1, 1, 7, 1, AIRSAFFRON_COLUMN, 0, "a pattern of 64 bits");
+    away_refuses(16, 1, 4, 9, 2, AIRSAFFRON_COLUMN, 0, "pattern COLUMN before ROW");
+    away_refuses(7, 2, 4, 9, 2, AIRSAFFRON_COLUMN, 0, "column 2 is parity");
+    away_refuses(1, UINT64_MAX, 0, 0, 1, AIRSAFFRON_COLUMN, 0, "column 2^64 - 1 away");
+    away_refuses(7, 1, 4, 9, 2, AIRSAFFRON_ROW, 0, "away ROW before WIDTH");
+    away_refuses(1, 1, UINT64_MAX, 7, 1, AIRSAFFRON_ROW, 0, "row 2^64 - 1 away");
+    away_refuses(7, 1, 3, 9, 2, AIRSAFFRON_WIDTH, 0, "away WIDTH before MANY");
+    away_refuses(2, 1, 3, 7, 0, AIRSAFFRON_WIDTH, 0, "an empty strip away");
+    away_refuses(7, 1, 3, 6, 1, AIRSAFFRON_MANY, 0, "MANY before STALE");
+    away_refuses(14, 1, 3, 8, 1, AIRSAFFRON_MANY, 0, "MANY before AHEAD");
+    away_refuses(6, 1, 3, 6, 1, AIRSAFFRON_STALE, 1, "away base 6");
+    away_refuses(6, 1, 3, 8, 1, AIRSAFFRON_AHEAD, 1, "away base 8");
 }
 
 /* Restore and show refuse alike. */
@@ -499,6 +521,7 @@ int main(void) {
     test_read();
     test_check();
     test_write();
+    test_notes_behind();
     test_rebuild();
     test_write_away();
     test_restore_and_show();

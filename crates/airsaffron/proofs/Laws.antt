@@ -2,7 +2,7 @@
 -- Assumes nothing.
 use Prim.Native.Nat.{ℕ}
 use mathlib.Core.List.{List}
-use mathlib.Core.Path.{_≡_, sym, ap, _∙_}
+use mathlib.Core.Path.{_≡_, sym, ap, ap₂, _∙_}
 use Rattle.refusal.specs.declared.Refusal.{Refusal}
 use Rattle.refusal.specs.Number.{numberOf}
 use Rattle.stripe.specs.declared.Params.{Params}
@@ -15,15 +15,20 @@ use Rattle.refusal.specs.declared.Outcome.{Outcome}
 use Rattle.refusal.specs.declared.Outcome.the-variants.{Done, Refused as NoOutcome}
 use Rattle.parity.specs.declared.Checkup.{Checkup}
 use Rattle.parity.specs.declared.Checkup.the-variants.{Wrong, Refused as Unchecked}
+use Rattle.revision.specs.declared.Age.{Age}
+use Rattle.revision.specs.Revision.{age-number, age-distance}
 use Rattle.write.specs.declared.Written.{Written}
-use Rattle.write.specs.declared.Written.the-variants.{Accepted, Refused as Unwritten}
+use Rattle.write.specs.declared.Written.the-variants.{Accepted, Aged, Refused as Unwritten}
 use Rattle.airsaffron.specs.declared.Answer.{Answer}
-use Rattle.airsaffron.specs.Given.{refused-given, element-given, outcome-given, checkup-given, written-given, reading-given, shape-left}
+use Rattle.airsaffron.specs.Given.{refused-given, element-given, outcome-given, checkup-given, aged-given, written-given, reading-given, shape-left}
 
 -- ---- the numbers of an answer
 
 pub refused-is : (e : Refusal) (n : ℕ) → n ≡ numberOf e → _≡_ {A = Answer} (record { refusal = n; first = 0; second = 0 }) (refused-given e)
 refused-is e n h = ap (λ (m : ℕ). record { refusal = m; first = 0; second = 0 }) h
+
+pub aged-is : (g : Age) (n d : ℕ) → n ≡ age-number g → d ≡ age-distance g → _≡_ {A = Answer} (record { refusal = n; first = d; second = 0 }) (aged-given g)
+aged-is g n d h k = ap₂ (λ (m e : ℕ). record { refusal = m; first = e; second = 0 }) h k
 
 module _ (x : Answer) where
   module _ (a b : ℕ) (h : x ≡ record { refusal = 0; first = a; second = b }) where
@@ -38,6 +43,9 @@ module _ (x : Answer) where
 
   pub done-is : (y : Outcome) → x ≡ record { refusal = 0; first = 0; second = 0 } → y ≡ Done → x ≡ outcome-given y
   done-is y h e = h ∙ ap outcome-given (sym e)
+
+  pub aged-told : (y : Written) (g : Age) → x ≡ aged-given g → y ≡ Aged g → x ≡ written-given y
+  aged-told y g h e = h ∙ ap written-given (sym e)
 
   module _ (d : Refusal) (h : x ≡ refused-given d) where
     pub no-word : (y : Element) → y ≡ NoElement d → x ≡ element-given y

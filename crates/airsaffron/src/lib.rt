@@ -2,6 +2,7 @@
 use parity::Checkup;
 use refusal::Outcome;
 use refusal::Refusal;
+use revision::Age;
 use ring::Element;
 use stripe::Params;
 use stripe::Reading;
@@ -16,7 +17,7 @@ ghost use Rattle.write.specs.Written.{writeOf};
 ghost use Rattle.away.specs.Away.{awayOf};
 ghost use Rattle.rebuild.specs.Answer.{rebuildOf, restoreOf, shown-at};
 ghost use Rattle.pattern.specs.Pattern.{asked};
-ghost use Rattle.airsaffron.specs.Given.{refused-given, element-given, outcome-given, checkup-given, written-given, reading-given, shape-left, shown-given};
+ghost use Rattle.airsaffron.specs.Given.{refused-given, element-given, outcome-given, checkup-given, aged-given, written-given, reading-given, shape-left, shown-given};
 
 // The number of the refusal, or 0, and the values; every one that the call does not name is 0.
 #[repr(C)]
@@ -78,12 +79,24 @@ fn checkup(c: Checkup) -> Answer
     }
 }
 
+// A base that is not current: the refusal, and the distance beside it.
+fn aged(age: Age) -> Answer
+    ensures { λ x. ⌜ x ≡ aged-given age ⌝ }
+{
+    Answer {
+        refusal: age.number(),
+        first: age.distance() as u64,
+        second: 0,
+    }
+}
+
 // The numbers of a write's answer.
 fn written(w: Written) -> Answer
     ensures { λ x. ⌜ x ≡ written-given w ⌝ }
 {
     match w {
         Written::Accepted(revision, count) => accepted(revision as u64, count),
+        Written::Aged(age) => aged(age),
         Written::Refused(e) => refused(e),
     }
 }

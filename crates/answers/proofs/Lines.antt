@@ -8,13 +8,11 @@ use native.Mathlib.Numerals.{add-one}
 use native.Mathlib.Omega.{arith}
 use lib.ListN.{length, getD, take, set, length-append, length-take}
 use lib.Seq.{take-all, take-suc-set, take-suc}
-use Rattle.refusal.specs.Number.{numberOf}
-use Rattle.refusal.specs.declared.Refusal.{Refusal}
 use Rattle.io.specs.Digits.{digits, Fewest}
 use Rattle.answers.proofs.Digits.{digits-few, digits-text}
-use Rattle.answers.specs.Line.{Put, text, nameOf, lineOf, spaced, line-end, refused-word}
+use Rattle.answers.specs.Line.{Put, text, lineOf, spaced, refused-word}
 use Rattle.answers.specs.declared.Answer.{Answer}
-use Rattle.answers.specs.declared.Answer.the-variants.{Refused, Said}
+use Rattle.answers.specs.declared.Answer.the-variants.{Said}
 
 pub put-none : (s v : List ℕ) (n : ℕ) → take (n + 0) s ≡ take n s ++ take 0 v
 put-none s v n = rw (add-zero, append-nil)
@@ -44,11 +42,9 @@ put-four s t u r q n x y z a v w o p f g h i = put-two s t q n x a v (w ++ (o ++
 pub put-spaced : (s t u : List ℕ) (n x y : ℕ) (w : List ℕ) → Put s t n x (32 ∷ []) → Put t u x y w → Put s u n y (spaced w)
 put-spaced s t u n x y w a b = put-two s t u n x y (32 ∷ []) w a b
 
--- the line of a refusal, whose number a call gave
-pub put-refusal : (s t u r q : List ℕ) (x y z a m : ℕ) (e : Refusal) → m ≡ numberOf e → Put s t 0 x refused-word → Put t u x y (spaced (text m))
-    → Put u r y z (spaced (nameOf e)) → Put r q z a line-end → Put s q 0 a (lineOf (Refused e))
-put-refusal s t u r q x y z a m e l f g h i =
-    put-four s t u r q 0 x y z a refused-word (spaced (text (numberOf e))) (spaced (nameOf e)) line-end f (subst (λ (k : ℕ). Put t u x y (spaced (text k))) l g) h i
+-- the start of a refusal's line ends before place 38
+pub start-end : (s t : List ℕ) (x y z : ℕ) → Put s t 0 x refused-word → y ≤ x + 21 → z ≤ y + 9 → z ≤ 37
+start-end s t x y z p h k = omega (arith, p .place)
 
 -- nothing is put
 pub put-nothing : (s : List ℕ) (a : Answer) → a ≡ Said → Put s s 0 0 (lineOf a)

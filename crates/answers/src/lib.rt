@@ -1,15 +1,17 @@
-// Answers, each a line on standard output: `done ..` or `refused N NAME`.
+// Answers, each a line on standard output: `done ..` or `refused N NAME`, on STALE and AHEAD with the distance behind it.
 use refusal::Refusal;
+use revision::Age;
 ghost use Prim.Native.Nat.{_+_, _≤_};
 ghost use lib.ListN.{length};
-ghost use Rattle.answers.specs.declared.Answer.the-variants.{Word, Accepted, Refused};
-ghost use Rattle.answers.specs.Line.{Put, text, spaced, nameOf, lineOf};
+ghost use Rattle.answers.specs.declared.Answer.the-variants.{Word, Accepted, Aged, Refused};
+ghost use Rattle.answers.specs.Line.{Put, text, spaced, named, refused-start, lineOf};
 
 // What a command comes to. `Said`: nothing is left to say.
 pub enum Answer {
     Done,
     Word(u64),
     Accepted(u32, u64),
+    Aged(Age),
     Refused(Refusal),
     Said,
 }
@@ -48,16 +50,27 @@ fn put_number(line: &mut [u8], n: usize, number: u64) -> usize
     put_digits(line, m, number)
 }
 
-// The same with the name of a refusal, which is that word of all names whose number it has.
-fn put_name(line: &mut [u8], n: usize, e: Refusal) -> usize
-    requires { ⌜ n + 9 ≤ length (now line) ⌝ }
-    ensures { λ x. ⌜ Put (now (line .entry)) (now (line .exit)) n x (spaced (nameOf e)) ⌝ }
+// The same with the name that has a number: that word of all names.
+fn put_name(line: &mut [u8], n: usize, number: u64) -> usize
+    requires { ⌜ (n + 9 ≤ length (now line)) × (length (named number) ≤ 8) ⌝ }
+    ensures { λ x. ⌜ Put (now (line .entry)) (now (line .exit)) n x (spaced (named number)) ⌝ }
     ensures { λ x. ⌜ x ≤ n + 9 ⌝ }
 {
     let names =
         b" CUT TAIL COUNT PRIME SHAPE STRIP WIDTH COLUMN ROW STALE AHEAD MANY ROOM LONG EXPONENT ELEMENT";
     let m = put(line, n, b" ");
-    put(line, m, words::word(names, b' ', e.number() as usize))
+    put(line, m, words::word(names, b' ', number as usize))
+}
+
+// The start of a refusal's line: its number and its name.
+fn put_start(line: &mut [u8], number: u64) -> usize
+    requires { ⌜ (64 ≤ length (now line)) × (length (named number) ≤ 8) ⌝ }
+    ensures { λ x. ⌜ Put (now (line .entry)) (now (line .exit)) 0 x (refused-start number (named number)) ⌝ }
+    ensures { λ x. ⌜ x ≤ 37 ⌝ }
+{
+    let a = put(line, 0, b"refused");
+    let b = put_number(line, a, number);
+    put_name(line, b, number)
 }
 
 // The line of a refusal.
@@ -65,10 +78,18 @@ fn put_refused(line: &mut [u8], e: Refusal) -> usize
     requires { ⌜ 64 ≤ length (now line) ⌝ }
     ensures { λ x. ⌜ Put (now (line .entry)) (now (line .exit)) 0 x (lineOf (Refused e)) ⌝ }
 {
-    let a = put(line, 0, b"refused");
-    let b = put_number(line, a, e.number());
-    let c = put_name(line, b, e);
-    put(line, c, b"\n")
+    let a = put_start(line, e.number());
+    put(line, a, b"\n")
+}
+
+// The line of a base that is not current.
+fn put_aged(line: &mut [u8], age: Age) -> usize
+    requires { ⌜ 64 ≤ length (now line) ⌝ }
+    ensures { λ x. ⌜ Put (now (line .entry)) (now (line .exit)) 0 x (lineOf (Aged age)) ⌝ }
+{
+    let a = put_start(line, age.number());
+    let b = put_number(line, a, age.distance() as u64);
+    put(line, b, b"\n")
 }
 
 // The line of a word of wrong parities.
@@ -102,6 +123,7 @@ fn put_answer(line: &mut [u8], answer: Answer) -> usize
         Answer::Done => put(line, 0, b"done\n"),
         Answer::Word(w) => put_word(line, w),
         Answer::Accepted(revision, count) => put_accepted(line, revision, count),
+        Answer::Aged(age) => put_aged(line, age),
         Answer::Refused(e) => put_refused(line, e),
         Answer::Said => 0,
     }

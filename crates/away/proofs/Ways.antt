@@ -11,7 +11,7 @@ use borrow.Author.Tests.{le-ltb, lt-ltb, ne-eqb, eq-eqb, not-false, not-true}
 use Rattle.laws.proofs.Choose.{true-T, and-right}
 use Rattle.laws.specs.Left.{Leaves}
 use Rattle.refusal.specs.declared.Refusal.{Refusal}
-use Rattle.refusal.specs.declared.Refusal.the-variants.{Width, Column, Row, Many, Stale, Ahead}
+use Rattle.refusal.specs.declared.Refusal.the-variants.{Width, Column, Row, Many}
 use Rattle.stripe.proofs.Frame.{read-image}
 use Rattle.stripe.specs.Layout.{revisionOf, rows}
 use Rattle.stripe.specs.Params.{Admitted}
@@ -20,13 +20,13 @@ use Rattle.stripe.specs.declared.Params.{Params}
 use Rattle.stripe.specs.declared.Reading.{Reading}
 use Rattle.stripe.specs.declared.Reading.the-variants.{Stripe, Refused as Unread}
 use Rattle.pattern.specs.Pattern.{pattern-fits, few-lost}
-use Rattle.revision.specs.Revision.{judged}
+use Rattle.revision.specs.Revision.{judged, is-current}
 use Rattle.revision.specs.declared.Age.{Age}
-use Rattle.revision.specs.declared.Age.the-variants.{Current, Older, Newer}
-use Rattle.write.proofs.Ways.{leaves-is, age-stale, age-ahead, age-current}
+use Rattle.revision.specs.declared.Age.the-variants.{Current}
+use Rattle.write.proofs.Ways.{leaves-is, age-handed, age-current}
 use Rattle.present.specs.Steps.{Target}
 use Rattle.write.specs.declared.Written.{Written}
-use Rattle.write.specs.declared.Written.the-variants.{Refused}
+use Rattle.write.specs.declared.Written.the-variants.{Aged, Refused}
 use Rattle.away.specs.Away.{awayOf, away-read, away-sound, away-judged}
 
 module _ (s v : List ℕ) (m i t b : ℕ) (w : Reading) (e : w ≡ readOf s) where
@@ -83,20 +83,16 @@ module _ (s v : List ℕ) (m i t b : ℕ) (w : Reading) (e : w ≡ readOf s) whe
                   let z : awayOf s m i t b v ≡ away-judged s q m i t b v (judged (revisionOf s i) b) = sound ∙ rw (within, lt-ltb t (rows q) g, eq-eqb (length v) (q .b) k, few) in
                   rw z L
 
--- ---- by the age of the base
+-- ---- by the age y of the base, where z is whether it is current
 
-module _ (s v : List ℕ) (q : Params) (m i t b : ℕ) (y : Age) (r : y ≡ judged (revisionOf s i) b) where
-  pub stale : y ≡ Older → Leaves (away-judged s q m i t b v (judged (revisionOf s i) b)) (Refused Stale) s
+module _ (s v : List ℕ) (q : Params) (m i t b : ℕ) (y : Age) (r : y ≡ judged (revisionOf s i) b) (z : Bool) (o : z ≡ is-current y) where
+  pub handed-on : not z ≡ true → Leaves (away-judged s q m i t b v (judged (revisionOf s i) b)) (Aged y) s
   unfolding away-judged
-  stale z = rw (sym r) (age-stale s _ y z)
+  handed-on n = rw (sym r) (age-handed s _ y z o n)
 
-  pub ahead : y ≡ Newer → Leaves (away-judged s q m i t b v (judged (revisionOf s i) b)) (Refused Ahead) s
+  pub current : not z ≡ false → (x : Written) (u : List ℕ) → Leaves (away-judged s q m i t b v Current) x u → Leaves (away-judged s q m i t b v (judged (revisionOf s i) b)) x u
   unfolding away-judged
-  ahead z = rw (sym r) (age-ahead s _ y z)
-
-  pub current : (x : Written) (u : List ℕ) → y ≡ Current → Leaves (away-judged s q m i t b v Current) x u → Leaves (away-judged s q m i t b v (judged (revisionOf s i) b)) x u
-  unfolding away-judged
-  current x u z L = rw (sym r) (age-current s _ y x u z L)
+  current n x u L = rw (sym r) (age-current s _ y z o n x u L)
 
 -- ---- what `write_sound` is asked
 

@@ -1,6 +1,5 @@
 // A write to one data strip while columns are lost.
 use refusal::Refusal;
-use revision::Age;
 use stripe::Params;
 use stripe::Reading;
 use write::Written;
@@ -146,11 +145,10 @@ fn write_sound(
     ensures { λ w. ⌜ Leaves (away-judged (now (image .entry)) q lost column row base (now (strip .entry)) (judged (revisionOf (now (image .entry)) column) base)) w (now (image .exit)) ⌝ }
 {
     let age = write::age_of(image, q, column, base);
-    match age {
-        Age::Current => accept(image, q, lost, column, row, base, strip),
-        Age::Older => Written::Refused(Refusal::Stale),
-        Age::Newer => Written::Refused(Refusal::Ahead),
+    if !age.is_current() {
+        return Written::Aged(age);
     }
+    accept(image, q, lost, column, row, base, strip)
 }
 
 // Whether the pattern names columns of the stripe alone, and the column is one of its data.

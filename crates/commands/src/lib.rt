@@ -167,6 +167,7 @@ fn rebuild_lost(lost: u64, path: &[u8], image: &mut [u8]) -> Changed
 fn accepted(written: Written) -> Answer {
     match written {
         Written::Accepted(revision, count) => Answer::Accepted(revision, count),
+        Written::Aged(age) => Answer::Aged(age),
         Written::Refused(e) => Answer::Refused(e),
     }
 }
@@ -313,6 +314,7 @@ depot show IMAGE LOST COLUMN ROW                 a strip, restored if its column
 depot report IMAGE                               parameters, revisions, each parity right or wrong
 depot help                                       these lines
 LOST: columns such as 0,3, or - for none; data columns come first, then parity. DATA, STRIP and IMAGE are files.
+refused 10 STALE 3: BASE is three notes behind the column's revision; refused 11 AHEAD 3: three ahead of it.
 ",
     );
     Answer::Said

@@ -83,10 +83,11 @@ fn of_checkup(c: Checkup) -> Answer {
     }
 }
 
-// The answer of write in numbers.
+// The answer of write in numbers; the distance stands where the new revision would.
 pub fn of_written(w: Written) -> Answer {
     match w {
         Written::Accepted(revision, count) => answered(0, revision as u64, count),
+        Written::Aged(age) => answered(age.number(), age.distance() as u64, 0),
         Written::Refused(no) => answered(no.number(), 0, 0),
     }
 }

@@ -207,11 +207,11 @@ pub fn start_of(c: usize, column: usize) -> u64 {
     }
 }
 
-// The base of write w: about as far from the start as the column may be by then, or far off.
+// The base of write w: about as far from the start as the column may be by then, or half the circle off, up to 4 more or less.
 fn base_of(q: Shape, c: usize, w: usize, column: usize) -> u32 {
     let near = add(over(w, times(3, add(q.k, 1))), below(c, add(200, w), 2));
     let far = if seldom(c, add(220, w), 8) {
-        2147483646
+        add(2147483644, below(c, add(340, w), 9)) as u64
     } else {
         0
     };

@@ -79,7 +79,7 @@ fn run(one: &mut [u8], two: &mut [u8], room: &mut [u8]) {
         run_groups(limits.refusals | slips.refusals, 10, one, two, room),
         17,
     );
-    self_test(8, one, two, room);
+    self_test(9, one, two, room);
 }
 
 fn main() {

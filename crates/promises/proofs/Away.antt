@@ -23,7 +23,10 @@ use Rattle.rebuild.proofs.Cells.{rebuilt-data}
 use Rattle.rebuild.proofs.Independent.{agrees-image, whole-data-agrees, rebuilt-keeps}
 use Rattle.rebuild.specs.Agrees.{AgreesOutside}
 use Rattle.rebuild.specs.Lost.{rebuilt, whole-data}
+use Rattle.revision.specs.Revision.{judged, renewed, is-current}
+use Rattle.revision.specs.declared.Age.{Age}
 use Rattle.write.specs.declared.Written.{Written}
+use Rattle.write.specs.declared.Written.the-variants.{Accepted, Aged}
 use Rattle.write.specs.Written.{written}
 use Rattle.present.specs.Present.{present-count}
 use Rattle.away.proofs.Agreeing.{away-stays, written-agrees}
@@ -37,14 +40,14 @@ use Rattle.store.proofs.Shuffle.{shuffled-map}
 use Rattle.store.specs.Image.{image-log, image-last}
 use Rattle.store.specs.Kinds.{keyed, by-column, Arrangement}
 use Rattle.store.specs.Lists.{keep, Shuffled}
-use Rattle.store.specs.Store.{Rules, Write, Entry, Answer, Logged, sound, fault, verdict, accepts, reply, answer, under, later, hits, last-accepted, byte-of}
+use Rattle.store.specs.Store.{Rules, Write, Entry, Logged, sound, accepts, reply, answer, under, later, hits, last-accepted, byte-of}
 use Rattle.promises.proofs.Changed.{write-keeps-right}
 use Rattle.promises.proofs.Cover.{Lies, lies, in-head, at-revision, at-data-count, at-strip, at-parity-count, at-parity}
 use Rattle.promises.proofs.Demand2.{whole-data-right, rebuilt-right, rebuilt-image}
 use Rattle.promises.proofs.Demand3.{Good, stays, good-first, demand-3-by}
-use Rattle.promises.proofs.Writes.{counting, rules, case, case-told, case-left, told-is, left-is}
+use Rattle.promises.proofs.Writes.{counting, rules, aged, replied, case, case-told, case-left, told-is, left-is}
 use Rattle.promises.specs.Away.{write-away, told-away, left-away, answers-away, last-away, Pattern, Complete, Completed, recounted, As-if, Demand-3-away}
-use Rattle.promises.specs.Demand3.{answer-of, told, left, answers, last-image, Bytes, Demand-3}
+use Rattle.promises.specs.Demand3.{Answer, answer-of, is-accepted, told, left, answers, last-image, Bytes, Demand-3}
 
 -- ---- lists
 
@@ -81,8 +84,22 @@ same-both z s u v q m i g h a b =
     go o (at-parity-count l k) = g .count o l k ∙ sym (h .count o l k)
     go o (at-parity j t x hj ht hx e) = rw e (parity j t x hj ht hx (is-lost m (q .k + j)) refl)
 
-agrees-refl : (s : List ℕ) (q : Params) (m : ℕ) → AgreesOutside s s q m
+pub agrees-refl : (s : List ℕ) (q : Params) (m : ℕ) → AgreesOutside s s q m
 agrees-refl s q m = record { len = refl; front = λ o h. refl; count = λ o h k. refl; data-there = λ i t x h k l e. refl; parity-there = λ j t x h k l e. refl }
+
+pub revisions-alike : (z s : List ℕ) (q : Params) (m : ℕ) → AgreesOutside z s q m → (i : ℕ) → i < q .k → revisionOf s i ≡ revisionOf z i
+revisions-alike z s q m g i h =
+    let a : ℕ = revision-at i in
+    omega (arith, g .front a (omega arith), g .front (a + 1) (omega arith), g .front (a + 2) (omega arith), g .front (a + 2 + 1) (omega arith))
+
+pub agrees-sym : (s z : List ℕ) (q : Params) (m : ℕ) → AgreesOutside s z q m → AgreesOutside z s q m
+agrees-sym s z q m g = record {
+  len = sym (g .len);
+  front = λ o h. sym (g .front o h);
+  count = λ o h l. sym (g .count o h l);
+  data-there = λ i t x hi ht hx e. sym (g .data-there i t x hi ht hx e);
+  parity-there = λ j t x hj ht hx e. sym (g .parity-there j t x hj ht hx e);
+}
 
 stays-trans : (s u v : List ℕ) (q : Params) (m : ℕ) → Stays s u q m → Stays u v q m → Stays s v q m
 stays-trans s u v q m a b = record {
@@ -96,17 +113,34 @@ stays-refl s q m = record { data-stays = λ i t x h k l e. refl; parity-stays = 
 -- ---- one write
 
 module _ (q : Params) (m : ℕ) (w : Write) where
-  abbrev R : Rules
+  abbrev R : Rules Answer
   R = counting q (present-count q m)
 
   -- the two stores differ in the count of an accepted write only
+  recounted-aged : (g : Age) → aged (present-count q m) w g ≡ recounted q m w (aged (count q) w g)
+  unfolding recounted
+  recounted-aged g = go (is-current g) refl
+    where
+      go : (b : Bool) → is-current g ≡ b
+          → answer-of (choose b (Accepted (renewed (w .base)) (present-count q m (w .column) (w .row))) (Aged g))
+          ≡ recounted q m w (answer-of (choose b (Accepted (renewed (w .base)) (count q (w .column) (w .row))) (Aged g)))
+      go true e = refl
+      go false e = rw e
+
+  recounted-cases : (x y z : Bool) (g : Age) → replied (present-count q m) w x y z g ≡ recounted q m w (replied (count q) w x y z g)
+  unfolding recounted
+  recounted-cases true true true g = recounted-aged g
+  recounted-cases true true false g = refl
+  recounted-cases true false z g = refl
+  recounted-cases false y z g = refl
+
   reply-recounted : (n : ℕ) → reply R n w ≡ recounted q m w (reply (rules q) n w)
-  unfolding reply accepts verdict sound fault recounted
-  reply-recounted n = refl
+  unfolding reply sound
+  reply-recounted n = recounted-cases (ltb (w .column) (q .k)) (ltb (w .row) (rows q)) (eqb (length (w .strip)) (q .b)) (judged n (w .base))
 
   accepts-alike : (n : ℕ) → accepts R n w ≡ accepts (rules q) n w
-  unfolding accepts verdict sound fault
-  accepts-alike n = refl
+  unfolding accepts recounted
+  accepts-alike n = ap is-accepted (reply-recounted n)
 
   width-of : sound (rules q) w ≡ true → length (w .strip) ≡ q .b
   unfolding sound
@@ -137,21 +171,16 @@ module _ (q : Params) (m : ℕ) (w : Write) where
     S : Image s q
     S = agrees-image z s q m g Z
 
-    revision-alike : w .column < q .k → revisionOf s (w .column) ≡ revisionOf z (w .column)
-    revision-alike h =
-        let a : ℕ = revision-at (w .column) in
-        omega (arith, g .front a (omega arith), g .front (a + 1) (omega arith), g .front (a + 2) (omega arith), g .front (a + 2 + 1) (omega arith))
-
     reply-alike : reply (rules q) (revisionOf s (w .column)) w ≡ reply (rules q) (revisionOf z (w .column)) w
     reply-alike = go (sound (rules q) w) refl
       where
         go : (b : Bool) → sound (rules q) w ≡ b → reply (rules q) (revisionOf s (w .column)) w ≡ reply (rules q) (revisionOf z (w .column)) w
-        go true e = ap (λ (n : ℕ). reply (rules q) n w) (revision-alike (sound-column (rules q) w e))
+        go true e = ap (λ (n : ℕ). reply (rules q) n w) (revisions-alike z s q m g (w .column) (sound-column (rules q) w e))
         go false e = reply-unsound (rules q) (revisionOf s (w .column)) (revisionOf z (w .column)) w e
 
     accept-alike : accepts (rules q) (revisionOf s (w .column)) w ≡ accepts (rules q) (revisionOf z (w .column)) w
-    unfolding reply accepts
-    accept-alike = ap (λ (x : Answer). eqb (x .refusal) 0) reply-alike
+    unfolding accepts
+    accept-alike = ap is-accepted reply-alike
 
     -- answered alike but for the count
     pub told-alike : told-away m s w ≡ recounted q m w (told z w)
@@ -196,24 +225,16 @@ module _ (q : Params) (m : ℕ) (w : Write) where
 -- of any accepted image: present columns end as if the write had been made on the image that rebuild gives
 pub as-if-rebuilt : (s : List ℕ) (q : Params) (m : ℕ) → Pattern q m → Image s q → (w : Write) → AgreesOutside (left (rebuilt s q m) w) (left-away m s w) q m
 as-if-rebuilt s q m P I w =
-    let k = rebuilt-keeps s q m I in
-    left-agrees-by q m w P (rebuilt s q m) s (rebuilt-image s q m I)
-    (record {
-      len = sym (k .len);
-      front = λ o h. sym (k .front o h);
-      count = λ o h l. sym (k .count o h l);
-      data-there = λ i t x hi ht hx e. sym (k .data-there i t x hi ht hx e);
-      parity-there = λ j t x hj ht hx e. sym (k .parity-there j t x hj ht hx e);
-    })
+    left-agrees-by q m w P (rebuilt s q m) s (rebuilt-image s q m I) (agrees-sym s (rebuilt s q m) q m (rebuilt-keeps s q m I))
     (λ i t x hi ht hx. sym (rebuilt-data s q m (I .len) i t x hi ht hx))
 
-small-z : (z s : List ℕ) (q : Params) (m : ℕ) → AgreesOutside z s q m → Bytes s → (o : ℕ) → o < data-count-at q → getD z o 0 < 256
-small-z z s q m g b o h = subst (λ (x : ℕ). x < 256) (g .front o (omega arith)) (b o)
+pub small-z : (z s : List ℕ) (q : Params) (m : ℕ) → AgreesOutside z s q m → ((o : ℕ) → o < data-count-at q → getD s o 0 < 256) → (o : ℕ) → o < data-count-at q → getD z o 0 < 256
+small-z z s q m g b o h = subst (λ (x : ℕ). x < 256) (g .front o (omega arith)) (b o h)
 
 -- "Present columns must end as if the write had been made on the complete right image, with this image's revisions, and the columns lost afterwards."
 pub as-if : (z s : List ℕ) (q : Params) (m : ℕ) → Pattern q m → Bytes s → Complete z s q m → (w : Write) → As-if z s q m w
 as-if z s q m P b c w =
-    let small = small-z z s q m (c .agrees) b in
+    let small = small-z z s q m (c .agrees) (λ o h. b o) in
     let i = stays z q z w (good-first z q (c .accepted) small) .accepted in
     let r = write-keeps-right z q (c .accepted) small w (c .right) in
     let g = left-agrees q m w P z s (c .accepted) (c .agrees) (c .right) in
@@ -227,17 +248,17 @@ as-if z s q m P b c w =
 -- ---- a list of writes, on the image and on the complete right one
 
 module _ (q : Params) (m : ℕ) (P : Pattern q m) where
-  relogged : Logged → Logged
+  relogged : Logged Answer → Logged Answer
   relogged x = record { entry = x .entry; answer = recounted q m (x .entry .write) (x .answer) }
 
-  under-relogged : (n : ℕ) (l : List Logged) → under n (map relogged l) ≡ map relogged (under n l)
+  under-relogged : (n : ℕ) (l : List (Logged Answer)) → under n (map relogged l) ≡ map relogged (under n l)
   unfolding relogged
   under-relogged n = keep-map (λ x. eqb (x .entry .number) n) (λ x. eqb (x .entry .number) n) relogged (λ x. refl)
 
-  accepted-relogged : (i t : ℕ) (l : List Logged) → last-accepted i t (map relogged l) ≡ last-accepted i t l
+  accepted-relogged : (i t : ℕ) (l : List (Logged Answer)) → last-accepted is-accepted i t (map relogged l) ≡ last-accepted is-accepted i t l
   unfolding last-accepted relogged recounted
   accepted-relogged i t [] = refl
-  accepted-relogged i t (x ∷ l) = ap (λ (o : Option Write). later o (choose (hits i t x) (some (x .entry .write)) none)) (accepted-relogged i t l)
+  accepted-relogged i t (x ∷ l) = ap (λ (o : Option Write). later o (choose (hits is-accepted i t x) (some (x .entry .write)) none)) (accepted-relogged i t l)
 
   module _ (z₀ s₀ : List ℕ) where
     record Tied (z s : List ℕ) : Type 0 where
@@ -263,7 +284,7 @@ module _ (q : Params) (m : ℕ) (P : Pattern q m) where
     unfolding image-log relogged
     tied-log [] z s t = refl
     tied-log (e ∷ es) z s t =
-        ap₂ (λ (a : Answer) (l : List Logged). record { entry = e; answer = a } ∷ l) (told-alike q m (e .write) P z s (t .good .accepted) (t .agrees))
+        ap₂ (λ (a : Answer) (l : List (Logged Answer)). record { entry = e; answer = a } ∷ l) (told-alike q m (e .write) P z s (t .good .accepted) (t .agrees))
         (tied-log es (left z (e .write)) (left-away m s (e .write)) (tied-step z s (e .write) t))
 
 -- demand 3 "for this mode"
@@ -284,7 +305,7 @@ demand-3-away s q m b P c es fs a = record {
   last-strips = λ i t x hi ht hx.
       ap (λ (l : List ℕ). data-byte l q i t x) (rebuilt-end es) ∙ all .last-strips i t x hi ht hx
       ∙ ap₂ (λ (o : Option Write) (l : List ℕ). byte-of o (data-byte l q i t x) x)
-      (sym (ap (last-accepted i t) (logs es) ∙ accepted-relogged q m P i t (answers z es))) (sym rebuilt-start);
+      (sym (ap (last-accepted is-accepted i t) (logs es) ∙ accepted-relogged q m P i t (answers z es))) (sym rebuilt-start);
   right-stays = subst (λ (l : List ℕ). Right l q) (sym (rebuilt-end es)) (ends es .right);
   refused-exactly = λ u w i h k.
       let e : told-away m u w .refusal ≡ told u w .refusal = refusal-alike u w i in
@@ -296,7 +317,7 @@ demand-3-away s q m b P c es fs a = record {
     z = c .whole
 
     small : (o : ℕ) → o < data-count-at q → getD z o 0 < 256
-    small = small-z z s q m (c .is .agrees) b
+    small = small-z z s q m (c .is .agrees) (λ o h. b o)
 
     all : Demand-3 z q es fs
     all = demand-3-by z q (c .is .accepted) small es fs a

@@ -19,18 +19,19 @@ use Rattle.algebra.specs.Lane.{D, act}
 use Rattle.algebra.specs.Prime.{odd-prime}
 use Rattle.algebra.specs.Word.{overOf, timesOf, laneOf}
 use Rattle.refusal.specs.declared.Refusal.{Refusal}
-use Rattle.refusal.specs.declared.Refusal.the-variants.{Stale}
 use Rattle.stripe.specs.Examples.{example-image}
 use Rattle.stripe.specs.Params.{checkedOf, admitted-prime, admitted-shape, admitted-strip}
 use Rattle.stripe.specs.Reading.{readOf, withParams, sectionsOf}
 use Rattle.block.specs.Parity.{due}
 use Rattle.block.specs.Touches.{touches, touch-word, count}
 use Rattle.write.proofs.Examples.{ninth, tenth}
-use Rattle.revision.specs.Revision.{judged, distance, renewed}
-use Rattle.write.specs.Written.{writeOf, write-read, write-sound, write-judged, written, moved, difference}
+use Rattle.revision.specs.Revision.{judged, distance, renewed, age-distance}
+use Rattle.revision.specs.declared.Age.{Age}
+use Rattle.revision.specs.declared.Age.the-variants.{Older}
+use Rattle.write.specs.Written.{writeOf, write-read, write-sound, write-judged, written, moved, difference, written-distance}
 use Rattle.refusal.specs.declared.Outcome.{Outcome}
 use Rattle.write.specs.declared.Written.{Written}
-use Rattle.write.specs.declared.Written.the-variants.{Accepted, Refused}
+use Rattle.write.specs.declared.Written.the-variants.{Accepted, Aged, Refused}
 use Rattle.rebuild.specs.Answer.{rebuildOf, rebuild-read}
 use Rattle.pattern.specs.Pattern.{pattern-fits, few-lost, consulted, lost-exponents, present-exponents}
 use Rattle.rebuild.specs.Lost.{rebuilt, whole-data, whole-parity, recovered, consulted-lanes, present-lanes}
@@ -45,17 +46,22 @@ ninth-write = record { column = 1; row = 1; base = 7; strip = 0 ∷ [] }
 answer-nine : (writeOf example-image 1 1 7 (0 ∷ [])) .answer ≡ Accepted 8 6
 answer-nine = ap (λ (l : Left Written). l .answer) ninth
 
--- one that refuses all writes
+-- one that refuses all writes, by name or by age
 pub refuses-all : (e : Refusal) (u : List ℕ) → Leaves (writeOf example-image 1 1 7 (0 ∷ [])) (Refused e) u → ⊥
 refuses-all e u h =
     let a : Refused e ≡ Accepted 8 6 = h .answered ∙ answer-nine in
+    let z : _≡_ {A = ℕ} 0 1 = cc in omega arith
+
+pub ages-all : (g : Age) (u : List ℕ) → Leaves (writeOf example-image 1 1 7 (0 ∷ [])) (Aged g) u → ⊥
+ages-all g u h =
+    let a : Aged g ≡ Accepted 8 6 = h .answered ∙ answer-nine in
     let z : _≡_ {A = ℕ} 0 1 = cc in omega arith
 
 -- one that always answers alike: P9 is accepted, P10 is refused
 pub answers-alike : (a : Written) (u v : List ℕ) → Leaves (writeOf example-image 1 1 7 (0 ∷ [])) a u → Leaves (writeOf example-image 1 1 6 (0 ∷ [])) a v → ⊥
 answers-alike a u v h k =
     let b : a ≡ Accepted 8 6 = h .answered ∙ answer-nine in
-    let c : a ≡ Refused Stale = k .answered ∙ ap (λ (l : Left Written). l .answer) tenth in
+    let c : a ≡ Aged (Older 1) = k .answered ∙ ap (λ (l : Left Written). l .answer) tenth in
     let z : _≡_ {A = ℕ} 0 1 = cc in omega arith
 
 -- one that does nothing: byte 27 of I is 2, and of what P9 leaves 0
@@ -81,6 +87,10 @@ obeys-first-only e =
 -- one that invents the count
 pub invents-count : (n c : ℕ) (u : List ℕ) → Leaves (writeOf example-image 1 1 7 (0 ∷ [])) (Accepted n c) u → c ≡ 6
 invents-count n c u h = let a : Accepted n c ≡ Accepted 8 6 = h .answered ∙ answer-nine in cc
+
+-- one that invents the distance: P10 is behind by 1
+pub invents-distance : (g : Age) (u : List ℕ) → Leaves (writeOf example-image 1 1 6 (0 ∷ [])) (Aged g) u → age-distance g ≡ 1
+invents-distance g u h = let a : Aged g ≡ Aged (Older 1) = h .answered ∙ ap (λ (l : Left Written). l .answer) tenth in ap written-distance a
 
 -- a rebuild that does nothing: I with its data columns cleared comes back, so byte 22 is 1 again
 pub rebuilds-nothing : (x : Outcome) → Leaves (rebuildOf (put example-image 22 (replicate 8 0)) 3) x (put example-image 22 (replicate 8 0)) → ⊥

@@ -6,14 +6,14 @@ use Prim.Native.Nat.{ℕ, _<_}
 use mathlib.Core.Path.{_≡_}
 use mathlib.Core.List.{List}
 use mathlib.Core.Logic.{_↔_}
-use lib.Dec.{T, eqb}
+use lib.Dec.{T}
 use Rattle.laws.specs.Choose.{choose}
 use Rattle.laws.specs.Left.{Left}
 use Rattle.stripe.specs.declared.Params.{Params}
 use Rattle.stripe.specs.Layout.{rows, revisionOf, data-byte}
 use Rattle.stripe.specs.Reading.{Image}
 use Rattle.store.specs.Lists.{Shuffled}
-use Rattle.store.specs.Store.{Write, Entry, Answer, Logged, Once, under, last-accepted, byte-of}
+use Rattle.store.specs.Store.{Write, Entry, Logged, Once, under, last-accepted, byte-of}
 use Rattle.store.specs.Image.{image-log, image-last}
 use Rattle.block.specs.Parity.{Right}
 use Rattle.pattern.specs.Pattern.{pattern-fits, few-lost}
@@ -23,7 +23,7 @@ use Rattle.write.specs.declared.Written.{Written}
 use Rattle.present.specs.Present.{present-count}
 use Rattle.away.specs.Away.{awayOf}
 use Rattle.away.specs.Stays.{Stays}
-use Rattle.promises.specs.Demand3.{answer-of, told, left, Bytes, Sound}
+use Rattle.promises.specs.Demand3.{Answer, answer-of, is-accepted, told, left, Bytes, Sound}
 
 -- one write with the pattern m on an image: what the contract of `away::write` says it leaves
 abbrev pub write-away : ℕ → List ℕ → Write → Left Written
@@ -36,7 +36,7 @@ abbrev pub left-away : ℕ → List ℕ → Write → List ℕ
 left-away m s w = write-away m s w .image
 
 -- a list of writes with one pattern: each with its answer, and the last image
-abbrev pub answers-away : ℕ → List ℕ → List Entry → List Logged
+abbrev pub answers-away : ℕ → List ℕ → List Entry → List (Logged Answer)
 answers-away m = image-log (told-away m) (left-away m)
 
 abbrev pub last-away : ℕ → List ℕ → List Entry → List ℕ
@@ -63,7 +63,8 @@ unfoldable pub recounted : Params → ℕ → Write → Answer → Answer
 recounted q m w a = record {
   refusal = a .refusal;
   revision = a .revision;
-  count = choose (eqb (a .refusal) 0) (present-count q m (w .column) (w .row)) 0;
+  count = choose (is-accepted a) (present-count q m (w .column) (w .row)) 0;
+  distance = a .distance;
 }
 
 -- "Present columns must end as if the write had been made on the complete right image .. and the columns lost afterwards": one write w on s with the
@@ -81,7 +82,7 @@ pub record As-if (z s : List ℕ) (q : Params) (m : ℕ) (w : Write) : Type 0 wh
 -- s an accepted image with the parameters q, of which some right image has all present columns; m a sound pattern; es and fs two arrangements of one
 -- list of writes, `Arrangement by-column (q .k) es fs`
 pub record Demand-3-away (s : List ℕ) (q : Params) (m : ℕ) (es fs : List Entry) : Type 0 where
-  -- "each write gets the same answer in both"
+  -- "each write gets the same answer in both", its distance too
   pub same-answers : Shuffled (answers-away m s es) (answers-away m s fs)
   pub by-number : Once es → (n : ℕ) → under n (answers-away m s es) ≡ under n (answers-away m s fs)
   -- "the final images are equal", in lost columns too: these stay
@@ -92,7 +93,7 @@ pub record Demand-3-away (s : List ℕ) (q : Params) (m : ℕ) (es fs : List Ent
   pub still-completed : Completed (last-away m s es) q m
   -- "each data strip holds its last accepted write or its old bytes", "read on the image that demand 2's rebuild then gives"
   pub last-strips : (i t x : ℕ) → i < q .k → t < rows q → x < q .b
-      → data-byte (rebuilt (last-away m s es) q m) q i t x ≡ byte-of (last-accepted i t (answers-away m s es)) (data-byte (rebuilt s q m) q i t x) x
+      → data-byte (rebuilt (last-away m s es) q m) q i t x ≡ byte-of (last-accepted is-accepted i t (answers-away m s es)) (data-byte (rebuilt s q m) q i t x) x
   -- "right parity stays right"
   pub right-stays : Right (rebuilt (last-away m s es) q m) q
   -- "a sound write is refused exactly when its revision isn't current", at every point

@@ -12,7 +12,8 @@ use Rattle.ring.specs.Answer.{divide-answer, element-value}
 use Rattle.stripe.specs.Examples.{example-image}
 use Rattle.refusal.specs.declared.Outcome.{Outcome}
 use Rattle.parity.specs.Answer.{makeOf, checkOf, outcome-number, checkup-number, checkup-value}
-use Rattle.write.specs.Written.{writeOf, written-number, written-revision, written-count}
+use Rattle.write.specs.declared.Written.{Written}
+use Rattle.write.specs.Written.{writeOf, written-number, written-revision, written-count, written-distance}
 use Rattle.rebuild.specs.Answer.{rebuildOf}
 
 pub record Row : Type 0 where
@@ -33,11 +34,11 @@ making p k r d l at n =
 abbrev rebuilding : List ℕ → ℕ → List ℕ
 rebuilding s m = outcome-number ((rebuildOf s m) .answer) ∷ (rebuildOf s m) .image
 
--- write at column 1, row 1 of I with strip 00: the number, the new revision and the count
+-- write at row 1 of an image with strip 00: the number, the new revision, the count, and request 2's distance
 abbrev writing : List ℕ → ℕ → ℕ → List ℕ
 writing s column base =
-    written-number ((writeOf s column 1 base (0 ∷ [])) .answer)
-    ∷ written-revision ((writeOf s column 1 base (0 ∷ [])) .answer) ∷ written-count ((writeOf s column 1 base (0 ∷ [])) .answer) ∷ []
+    let answer : Written = writeOf s column 1 base (0 ∷ []) .answer in
+    written-number answer ∷ written-revision answer ∷ written-count answer ∷ written-distance answer ∷ []
 
 unfoldable pub bench : List Row
 bench =
@@ -57,12 +58,12 @@ bench =
     ∷ record { given = rebuilding I 7; expected = 12 ∷ I }
     ∷ record { given = rebuilding I 16; expected = 8 ∷ I }
     -- P9 I, column 1, row 1, base 7, strip 00: revision 8, count 6, parity as in P4
-    ∷ record { given = writing I 1 7 ++ part ((writeOf I 1 1 7 (0 ∷ [])) .image) 32 8; expected = 0 ∷ 8 ∷ 6 ∷ 1 ∷ 0 ∷ 1 ∷ 0 ∷ 1 ∷ 1 ∷ 1 ∷ 0 ∷ [] }
-    -- P10 the same with base 6: STALE. P11 base 8: AHEAD
-    ∷ record { given = writing I 1 6; expected = 10 ∷ 0 ∷ 0 ∷ [] }
-    ∷ record { given = writing I 1 8; expected = 11 ∷ 0 ∷ 0 ∷ [] }
+    ∷ record { given = writing I 1 7 ++ part ((writeOf I 1 1 7 (0 ∷ [])) .image) 32 8; expected = 0 ∷ 8 ∷ 6 ∷ 0 ∷ 1 ∷ 0 ∷ 1 ∷ 0 ∷ 1 ∷ 1 ∷ 1 ∷ 0 ∷ [] }
+    -- P10 the same with base 6: STALE, behind by 1. P11 base 8: AHEAD, by 1
+    ∷ record { given = writing I 1 6; expected = 10 ∷ 0 ∷ 0 ∷ 1 ∷ [] }
+    ∷ record { given = writing I 1 8; expected = 11 ∷ 0 ∷ 0 ∷ 1 ∷ [] }
     -- P12 revision 4294967295 with that base: new revision 0
-    ∷ record { given = writing (put32 I 16 4294967295) 1 4294967295; expected = 0 ∷ 0 ∷ 6 ∷ [] }
-    -- P13 revision 0, base 4294967295: STALE
-    ∷ record { given = writing I 0 4294967295; expected = 10 ∷ 0 ∷ 0 ∷ [] }
+    ∷ record { given = writing (put32 I 16 4294967295) 1 4294967295; expected = 0 ∷ 0 ∷ 6 ∷ 0 ∷ [] }
+    -- P13 revision 0, base 4294967295: STALE, behind by 1
+    ∷ record { given = writing I 0 4294967295; expected = 10 ∷ 0 ∷ 0 ∷ 1 ∷ [] }
     ∷ []

@@ -1,15 +1,47 @@
-// Revisions of 32 bits on a circle: how old a base is against a revision, and the revision that follows.
+// Revisions of 32 bits on a circle: how old a base is against a revision, by how much, and the revision that follows.
+use refusal::Refusal;
 ghost use mathlib.Core.Path.{_≡_};
-ghost use Rattle.revision.specs.Revision.{distance, judged, renewed};
+ghost use Rattle.revision.specs.Revision.{distance, judged, renewed, age-number, age-distance, is-current};
 
-// How old the base of a write is.
+// How old the base of a write is: current, behind the revision by so much, or ahead of it.
 pub enum Age {
     Current,
-    Older,
-    Newer,
+    Older(u32),
+    Newer(u32),
 }
 
-// How far a base lies behind a revision, on the circle of 32 bits.
+impl Age {
+    // 0 where the base is current, else the number of the refusal.
+    pub fn number(self) -> u64
+        ensures { λ x. ⌜ x ≡ age-number self ⌝ }
+    {
+        match self {
+            Age::Current => 0,
+            Age::Older(_) => Refusal::number(Refusal::Stale),
+            Age::Newer(_) => Refusal::number(Refusal::Ahead),
+        }
+    }
+
+    // How far the base is behind or ahead; 0 where it is current.
+    pub fn distance(self) -> u32
+        ensures { λ x. ⌜ x ≡ age-distance self ⌝ }
+    {
+        match self {
+            Age::Current => 0,
+            Age::Older(d) => d,
+            Age::Newer(d) => d,
+        }
+    }
+
+    // Whether the base is current.
+    pub fn is_current(self) -> bool
+        ensures { λ x. ⌜ x ≡ is-current self ⌝ }
+    {
+        self.number() == 0
+    }
+}
+
+// How far b lies behind n, on the circle of 32 bits.
 fn behind(n: u32, b: u32) -> u32
     ensures { λ r. ⌜ r ≡ distance n b ⌝ }
 {
@@ -25,10 +57,9 @@ pub fn judge(n: u32, b: u32) -> Age
         return Age::Current;
     }
     if d <= 2147483648 {
-        Age::Older
-    } else {
-        Age::Newer
+        return Age::Older(d);
     }
+    Age::Newer(behind(b, n))
 }
 
 // The revision that follows a base.

@@ -1,6 +1,7 @@
 // The second implementation of make, refill, check and write, from document 01 alone: each data strip is added to the parity strips that it is part of. Safe whatever it is handed, and slow.
 use refusal::Refusal;
 use second_ground::Answer;
+use second_ground::OPPOSITE;
 use second_ground::PLAIN;
 use second_ground::Shape;
 use second_ground::answered;
@@ -167,22 +168,32 @@ pub fn check(image: &[u8], room: &mut [u8], slip: u64) -> Answer {
     answered(0, wrong(image, room, q, q.r), 0)
 }
 
-// The refusal of a base b against a revision n, or 0.
-fn judged(n: u64, b: u64, slip: u64) -> u64 {
-    let d = low_half(std::num::wrapping_sub_u64(n, b));
+// How far off a base is that lies d behind the revision: that far where it is older, else what is left of the circle.
+fn off_by(d: u64, older: bool, slip: u64) -> u64 {
+    let left = std::num::wrapping_sub_u64(4294967296, d);
+    if slip == OPPOSITE {
+        return if older { left } else { d };
+    }
+    if older { d } else { left }
+}
+
+// The answer to a base b against a revision n: STALE or AHEAD with the distance beside it, or 0.
+fn judged(n: u64, b: u64, slip: u64) -> Answer {
+    let d = low_half(std::num::wrapping_sub_u64(n, b)) as u64;
     if d == 0 {
-        return 0;
+        return answered(0, 0, 0);
     }
     let older = if slip == PLAIN {
         b < n
     } else {
         d <= 2147483648
     };
-    if older {
-        Refusal::number(Refusal::Stale)
+    let refusal = if older {
+        Refusal::Stale
     } else {
-        Refusal::number(Refusal::Ahead)
-    }
+        Refusal::Ahead
+    };
+    answered(refusal.number(), off_by(d, older, slip), 0)
 }
 
 // The refusal of where and how wide a write to an accepted image is, or 0.
@@ -204,8 +215,8 @@ fn revision_at(column: usize) -> usize {
     add(12, times(4, column))
 }
 
-// The refusal of the base of a write to a data column, or 0.
-pub fn untimely(image: &[u8], q: Shape, column: usize, base: u32) -> u64 {
+// The answer to the base of a write to a data column, or 0.
+pub fn untimely(image: &[u8], q: Shape, column: usize, base: u32) -> Answer {
     judged(number32(image, revision_at(column)), base as u64, q.slip)
 }
 
@@ -271,8 +282,8 @@ pub fn write(
         return answered(place, 0, 0);
     }
     let time = untimely(image, q, column, base);
-    if time != 0 {
-        return answered(time, 0, 0);
+    if time.refusal != 0 {
+        return time;
     }
     accept(image, q, column, row, base, strip)
 }

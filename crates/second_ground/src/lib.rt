@@ -27,6 +27,8 @@ pub const MOVED: u64 = 6;
 pub const COUNTED: u64 = 7;
 // Testing MANY after STALE or AHEAD.
 pub const LATE: u64 = 8;
+// Telling the distance of the other direction.
+pub const OPPOSITE: u64 = 9;
 
 // The number of a refusal or 0, and the numbers beside it.
 pub struct Answer {

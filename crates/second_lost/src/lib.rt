@@ -308,7 +308,7 @@ pub fn show_refusal(image: &[u8], lost: u64, column: usize, row: usize, scratch:
     q.refusal
 }
 
-// The refusal of a write to an accepted image while columns are lost, or 0.
+// The answer to a write to an accepted image that is refused while columns are lost, or 0.
 fn unwritten(
     image: &[u8],
     q: Shape,
@@ -317,17 +317,17 @@ fn unwritten(
     row: usize,
     base: u32,
     width: usize,
-) -> u64 {
+) -> Answer {
     if outside(q, lost) {
-        return Refusal::number(Refusal::Column);
+        return answered(Refusal::number(Refusal::Column), 0, 0);
     }
     let place = misplaced(q, column, row, width);
     if place != 0 {
-        return place;
+        return answered(place, 0, 0);
     }
     let time = untimely(image, q, column, base);
-    if many(q, lost) && (time == 0 || q.slip != LATE) {
-        return Refusal::number(Refusal::Many);
+    if many(q, lost) && (time.refusal == 0 || q.slip != LATE) {
+        return answered(Refusal::number(Refusal::Many), 0, 0);
     }
     time
 }
@@ -392,8 +392,8 @@ pub fn write(
         return answered(q.refusal, 0, 0);
     }
     let no = unwritten(image, q, lost, column, row, base, strip.len());
-    if no != 0 {
-        return answered(no, 0, 0);
+    if no.refusal != 0 {
+        return no;
     }
     accept_there(image, q, lost, column, row, base, strip, room)
 }

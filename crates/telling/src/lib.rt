@@ -59,7 +59,8 @@ fn say_slip(slip: u64) {
         second_ground::READ => say(b"planted slip, lost bytes read"),
         second_ground::MOVED => say(b"planted slip, lost column moved"),
         second_ground::COUNTED => say(b"planted slip, lost parity counted"),
-        _ => say(b"planted slip, MANY after STALE or AHEAD"),
+        second_ground::LATE => say(b"planted slip, MANY after STALE or AHEAD"),
+        _ => say(b"planted slip, distance of the other direction"),
     }
 }
 

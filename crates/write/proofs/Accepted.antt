@@ -1,24 +1,20 @@
 -- What the image holds after an accepted write.
 -- Assumes nothing.
-use Prim.Native.Nat.{ℕ, _+_, _*_, _<_, _≤_, _-_, _/_, _%_, _^_}
+use Prim.Native.Nat.{ℕ, _+_, _*_, _<_, _≤_, _/_, _^_}
 use mathlib.Core.Bool.{Bool, true, false}
 use mathlib.Core.List.{List}
-use mathlib.Core.Logic.{_⊎_, inl, inr, ⊎-elim, _≢_, _↔_}
+use mathlib.Core.Logic.{_⊎_, inl, inr, ⊎-elim, _≢_}
 use mathlib.Core.Path.{_≡_, refl, sym, ap, subst, _∙_}
 use native.Mathlib.Nat.{mod-lt}
 use native.Mathlib.Omega.{arith}
 use lib.Arith.{digits-div, digits-mod}
-use lib.Dec.{eqb, leb}
 use lib.ListN.{length, getD}
-use borrow.Author.Tests.{eq-eqb, eqb-true}
-use Rattle.laws.proofs.Choose.{choose-yes}
 use Rattle.laws.proofs.Number.{put32-patched, u32-put32}
 use Rattle.laws.proofs.Part.{length-put, getD-put-before, getD-put-in, getD-put-after}
 use Rattle.laws.proofs.Patch.{patched}
 use Rattle.laws.proofs.Place.{Place, place, before, inside, after}
 use Rattle.laws.proofs.Rows.{row-in}
 use Rattle.laws.specs.Bit.{bit}
-use Rattle.laws.specs.Choose.{choose}
 use Rattle.laws.specs.Number.{byte, put32}
 use Rattle.laws.specs.Part.{put}
 use Rattle.laws.specs.Patch.{Patched, patch}
@@ -30,7 +26,7 @@ use Rattle.stripe.specs.Layout.{data-count-at, data-from, revision-at, revision
 use Rattle.stripe.specs.Reading.{Image}
 use Rattle.stripe.specs.declared.Params.{Params}
 use Rattle.block.specs.Touches.{touches}
-use Rattle.revision.specs.Revision.{renewed, judged, distance}
+use Rattle.revision.specs.Revision.{renewed}
 use Rattle.pattern.specs.Pattern.{is-lost}
 use Rattle.pattern.proofs.Single.{none-lost}
 use Rattle.present.proofs.Empty.{word-none}
@@ -38,8 +34,6 @@ use Rattle.write.proofs.Empty.{written-none}
 use Rattle.present.specs.Present.{present-word, present-moved, present-placed, present-written}
 use Rattle.write.specs.Steps.{Kept}
 use Rattle.write.specs.Written.{difference, written}
-use Rattle.revision.specs.declared.Age.{Age}
-use Rattle.revision.specs.declared.Age.the-variants.{Current, Older, Newer}
 
 pub put-patched : (s v : List ℕ) (at : ℕ) → at + length v ≤ length s → Patched s (put s at v) at (length v) (λ x. getD v x 0)
 put-patched s v at h = record { len = length-put s at v h; below = getD-put-before s at v h; inner = getD-put-in s at v h; above = getD-put-after s at v h }
@@ -229,21 +223,3 @@ module _ (s : List ℕ) (q : Params) (i t b : ℕ) (v : List ℕ) (I : Image s q
       go (before l) = other (inl l)
       go (inside m l e) = rw e (subst (λ (x : ℕ). x < 256) (sym (revision-byte m l)) (mod-lt (renewed b / 256 ^ m) (omega arith)))
       go (after l) = other (inr l)
-
--- ---- the order of revisions
-
-current-near : (d : ℕ) (a : Age) → a ≡ choose (eqb d 0) Current (choose (leb d (2 ^ 31)) Older Newer) → a ≡ Current → d ≡ 0
-current-near d a e f =
-    eqb-true d 0 (choose-yes (eqb d 0) Current (choose (leb d (2 ^ 31)) Older Newer) a (λ g. far (leb d (2 ^ 31)) g) e .0)
-  where
-    far : (z : Bool) → a ≡ choose z Older Newer → ⊥
-    far true g = let z : _≡_ {A = ℕ} 0 1 = cc in omega arith
-    far false g = let z : _≡_ {A = ℕ} 0 1 = cc in omega arith
-
--- "d = 0 is accepted": the base is current exactly when it is the column's revision
-pub judged-current : (n b : ℕ) → n < 2 ^ 32 → b < 2 ^ 32 → (judged n b ≡ Current) ↔ (n ≡ b)
-unfolding judged distance
-judged-current n b h g = (
-  λ e. let z : (n + (2 ^ 32 - b)) % 2 ^ 32 ≡ 0 = current-near ((n + (2 ^ 32 - b)) % 2 ^ 32) (judged n b) refl e in omega arith,
-  λ e. let z : (n + (2 ^ 32 - b)) % 2 ^ 32 ≡ 0 = omega arith in simp (eq-eqb ((n + (2 ^ 32 - b)) % 2 ^ 32) 0 z),
-)

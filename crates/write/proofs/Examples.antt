@@ -14,7 +14,6 @@ use Rattle.algebra.specs.Divide.{quot, inv, evens, turn, gap}
 use Rattle.algebra.specs.Lane.{D, act}
 use Rattle.algebra.specs.Prime.{odd-prime}
 use Rattle.algebra.specs.Word.{overOf, timesOf, laneOf}
-use Rattle.refusal.specs.declared.Refusal.the-variants.{Stale}
 use Rattle.stripe.specs.Examples.{example-image}
 use Rattle.stripe.specs.Params.{checkedOf, admitted-prime, admitted-shape, admitted-strip}
 use Rattle.stripe.specs.Reading.{readOf, withParams, sectionsOf}
@@ -22,14 +21,14 @@ use Rattle.block.specs.Touches.{touches, touch-word, count}
 use Rattle.revision.specs.Revision.{distance, judged, renewed}
 use Rattle.write.specs.Written.{writeOf, write-read, write-sound, write-judged, written, moved, difference}
 use Rattle.revision.specs.declared.Age.the-variants.{Older, Newer}
-use Rattle.write.specs.declared.Written.the-variants.{Accepted, Refused}
+use Rattle.write.specs.declared.Written.the-variants.{Accepted, Aged}
 
--- "1 to 2^31 is STALE; above is AHEAD"
-pub half-older : judged 2147483648 0 ≡ Older
+-- "1 to 2^31 is STALE; above is AHEAD", "behind by d, or ahead by 2^32 - d"
+pub half-older : judged 2147483648 0 ≡ Older 2147483648
 unfolding judged distance
 half-older = refl
 
-pub past-half-newer : judged 2147483649 0 ≡ Newer
+pub past-half-newer : judged 2147483649 0 ≡ Newer 2147483647
 unfolding judged distance
 past-half-newer = refl
 
@@ -48,7 +47,7 @@ pub ninth : writeOf example-image 1 1 7 (0 ∷ []) ≡ record { answer = Accepte
 unfolding writeOf write-read write-sound write-judged written moved difference readOf withParams sectionsOf checkedOf admitted-prime admitted-shape admitted-strip odd-prime below judged distance renewed touches touch-word count total weight bit pack overOf timesOf laneOf quot turn gap D act sum pick _⊕_ put patch tab put32 inv evens
 ninth = refl
 
--- "the same with base 6: STALE", "base 8: AHEAD"
-pub tenth : writeOf example-image 1 1 6 (0 ∷ []) ≡ record { answer = Refused Stale; image = example-image }
+-- "the same with base 6: STALE", behind by 1
+pub tenth : writeOf example-image 1 1 6 (0 ∷ []) ≡ record { answer = Aged (Older 1); image = example-image }
 unfolding writeOf write-read write-sound write-judged readOf withParams sectionsOf checkedOf admitted-prime admitted-shape admitted-strip odd-prime below judged distance
 tenth = refl

@@ -1,15 +1,16 @@
 -- Each way out of a write, and what it leaves.
 -- Assumes nothing.
 use Prim.Native.Nat.{ℕ, _+_, _-_, _<_, _≤_}
+use mathlib.Core.Bool.{Bool, true, false, not}
 use mathlib.Core.List.{List}
 use mathlib.Core.Path.{_≡_, refl, sym, ap, _∙_}
 use native.Mathlib.Omega.{arith}
 use lib.ListN.{length}
-use borrow.Author.Tests.{le-ltb, lt-ltb, ne-eqb, eq-eqb}
+use borrow.Author.Tests.{le-ltb, lt-ltb, ne-eqb, eq-eqb, not-false, not-true}
 use Rattle.laws.specs.Left.{Left, Leaves}
 use Rattle.laws.specs.Number.{u32}
 use Rattle.refusal.specs.declared.Refusal.{Refusal}
-use Rattle.refusal.specs.declared.Refusal.the-variants.{Width, Column, Row, Stale, Ahead}
+use Rattle.refusal.specs.declared.Refusal.the-variants.{Width, Column, Row}
 use Rattle.stripe.proofs.Frame.{read-image}
 use Rattle.stripe.proofs.Places.{revision-in}
 use Rattle.stripe.specs.Layout.{revision-at, revisionOf, rows}
@@ -17,29 +18,26 @@ use Rattle.stripe.specs.Reading.{Image, readOf, refusal-given}
 use Rattle.stripe.specs.declared.Params.{Params}
 use Rattle.stripe.specs.declared.Reading.{Reading}
 use Rattle.stripe.specs.declared.Reading.the-variants.{Stripe, Refused as Unread}
-use Rattle.revision.specs.Revision.{judged}
+use Rattle.revision.specs.Revision.{judged, is-current}
 use Rattle.present.specs.Steps.{Target}
 use Rattle.write.specs.Written.{by-age, writeOf, write-read, write-sound, write-judged}
 use Rattle.revision.specs.declared.Age.{Age}
-use Rattle.revision.specs.declared.Age.the-variants.{Current, Older, Newer}
+use Rattle.revision.specs.declared.Age.the-variants.{Current}
 use Rattle.write.specs.declared.Written.{Written}
-use Rattle.write.specs.declared.Written.the-variants.{Refused}
+use Rattle.write.specs.declared.Written.the-variants.{Aged, Refused}
 
 -- what is left where it is known which way out was taken
 pub leaves-is : (l m : Left Written) → l ≡ m → Leaves l (m .answer) (m .image)
 leaves-is l m e = rw e (record { answered = refl; left = refl })
 
--- ---- by the age y of the base
+-- ---- by the age y of the base, where z is whether it is current
 
-module _ (s : List ℕ) (l : Left Written) (y : Age) where
-  pub age-stale : y ≡ Older → Leaves (by-age s l y) (Refused Stale) s
-  age-stale o = leaves-is (by-age s l y) (record { answer = Refused Stale; image = s }) (ap (by-age s l) o)
+module _ (s : List ℕ) (l : Left Written) (y : Age) (z : Bool) (o : z ≡ is-current y) where
+  pub age-handed : not z ≡ true → Leaves (by-age s l y) (Aged y) s
+  age-handed n = let e : is-current y ≡ false = sym o ∙ not-true z n in record { answered = rw e; left = rw e }
 
-  pub age-ahead : y ≡ Newer → Leaves (by-age s l y) (Refused Ahead) s
-  age-ahead o = leaves-is (by-age s l y) (record { answer = Refused Ahead; image = s }) (ap (by-age s l) o)
-
-  pub age-current : (x : Written) (u : List ℕ) → y ≡ Current → Leaves l x u → Leaves (by-age s l y) x u
-  age-current x u o L = rw o L
+  pub age-current : not z ≡ false → (x : Written) (u : List ℕ) → Leaves l x u → Leaves (by-age s l y) x u
+  age-current n x u L = let e : is-current y ≡ true = sym o ∙ not-false z n in record { answered = rw e (L .answered); left = rw e (L .left) }
 
 pub revision-fits : (s : List ℕ) (q : Params) (i a : ℕ) → Image s q → i < q .k → a ≡ revision-at i → a + 4 ≤ length s
 revision-fits s q i a I h e = omega (arith, I .len, revision-in q i h)
@@ -89,14 +87,11 @@ module _ (s v : List ℕ) (i t b : ℕ) (w : Reading) (e : w ≡ readOf s) where
             unfolding write-sound
             way = sound ∙ simp (lt-ltb i (q .k) h, lt-ltb t (rows q) g, eq-eqb (length v) (q .b) k) (ap (write-judged s q i t b v) (sym l))
 
-            pub stale : y ≡ Older → Leaves (writeOf s i t b v) (Refused Stale) s
-            unfolding write-judged
-            stale o = rw way (age-stale s _ y o)
+            module _ (z : Bool) (o : z ≡ is-current y) where
+              pub handed-on : not z ≡ true → Leaves (writeOf s i t b v) (Aged y) s
+              unfolding write-judged
+              handed-on n = rw way (age-handed s _ y z o n)
 
-            pub ahead : y ≡ Newer → Leaves (writeOf s i t b v) (Refused Ahead) s
-            unfolding write-judged
-            ahead o = rw way (age-ahead s _ y o)
-
-            pub current : (x : Written) (u : List ℕ) → y ≡ Current → Leaves (write-judged s q i t b v Current) x u → Leaves (writeOf s i t b v) x u
-            unfolding write-judged
-            current x u o L = rw way (age-current s _ y x u o L)
+              pub current : not z ≡ false → (x : Written) (u : List ℕ) → Leaves (write-judged s q i t b v Current) x u → Leaves (writeOf s i t b v) x u
+              unfolding write-judged
+              current n x u L = rw way (age-current s _ y z o n x u L)

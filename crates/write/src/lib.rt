@@ -17,9 +17,10 @@ ghost use Rattle.present.specs.Steps.{Target};
 ghost use Rattle.laws.specs.Left.{Leaves};
 ghost use Rattle.write.specs.Steps.{Strips, differed, Moved, Placed, settled};
 
-// The new revision and the count of parity strips added to, or the refusal.
+// The new revision and the count of parity strips added to; or the age of a base that is not current; or another refusal.
 pub enum Written {
     Accepted(u32, u64),
+    Aged(Age),
     Refused(Refusal),
 }
 
@@ -131,9 +132,8 @@ pub fn write(image: &mut [u8], column: usize, row: usize, base: u32, strip: &[u8
         return Written::Refused(Refusal::Width);
     }
     let age = age_of(image, q, column, base);
-    match age {
-        Age::Current => accept(image, q, column, row, base, strip),
-        Age::Older => Written::Refused(Refusal::Stale),
-        Age::Newer => Written::Refused(Refusal::Ahead),
+    if !age.is_current() {
+        return Written::Aged(age);
     }
+    accept(image, q, column, row, base, strip)
 }

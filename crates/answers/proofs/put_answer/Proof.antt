@@ -30,6 +30,12 @@ put-accepted-requires c κs = search needs
 enum-known-answer-3 : tie.Need-enum-known-answer-3
 enum-known-answer-3 c = search needs
 
+put-aged-requires : tie.Need-put-aged-requires
+put-aged-requires c κs = search needs
+
+enum-known-answer-4 : tie.Need-enum-known-answer-4
+enum-known-answer-4 c = search needs
+
 put-refused-requires : tie.Need-put-refused-requires
 put-refused-requires c κs = search needs
 
@@ -60,8 +66,14 @@ same-length-4 c = search needs
 returns-4 : tie.Need-returns-4
 returns-4 c = (search line-told, search put-within)
 
+same-length-5 : tie.Need-same-length-5
+same-length-5 c = search needs
+
 returns-5 : tie.Need-returns-5
-returns-5 c = (search put-nothing, omega arith)
+returns-5 c = (search line-told, search put-within)
+
+returns-6 : tie.Need-returns-6
+returns-6 c = (search put-nothing, omega arith)
 
 pub put-answer-spec : {M : Type 1} → statement M
 put-answer-spec =
@@ -75,6 +87,8 @@ put-answer-spec =
     enum-known-answer-2
     put-accepted-requires
     enum-known-answer-3
+    put-aged-requires
+    enum-known-answer-4
     put-refused-requires
     enum-told-2
     same-length
@@ -85,4 +99,6 @@ put-answer-spec =
     returns-3
     same-length-4
     returns-4
-    returns-5)
+    same-length-5
+    returns-5
+    returns-6)

@@ -11,9 +11,6 @@ slice-aggregate-put c = search needs
 put-requires : tie.Need-put-requires
 put-requires c κs = search needs
 
-number-requires : tie.Need-number-requires
-number-requires c κs = search needs
-
 word-requires : tie.Need-word-requires
 word-requires c κs = search needs
 
@@ -32,7 +29,6 @@ put-name-spec =
     (tie.spec
     slice-aggregate-put
     put-requires
-    number-requires
     word-requires
     put-requires-2
     same-length

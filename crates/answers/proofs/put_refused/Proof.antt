@@ -1,9 +1,15 @@
 -- `answers::put_refused` meets its contract.
 -- Assumes nothing.
 use borrow.Author.Needs.{needs}
-use Rattle.answers.proofs.Lines.{put-refusal}
+use Rattle.answers.proofs.Names.{refusal-short, refused-line}
 use Rattle.answers.proofs.put_refused.Statement.{statement}
 use Rattle.answers.proofs.put_refused.Tie as tie
+
+number-requires : tie.Need-number-requires
+number-requires c κs = search needs
+
+put-start-requires : tie.Need-put-start-requires
+put-start-requires c κs = (search needs, search refusal-short)
 
 slice-aggregate-put : tie.Need-slice-aggregate-put
 slice-aggregate-put c = search needs
@@ -11,37 +17,11 @@ slice-aggregate-put c = search needs
 put-requires : tie.Need-put-requires
 put-requires c κs = search needs
 
-number-requires : tie.Need-number-requires
-number-requires c κs = search needs
-
-put-number-requires : tie.Need-put-number-requires
-put-number-requires c κs = search needs
-
-put-name-requires : tie.Need-put-name-requires
-put-name-requires c κs = search needs
-
-slice-aggregate-put-2 : tie.Need-slice-aggregate-put-2
-slice-aggregate-put-2 c = search needs
-
-put-requires-2 : tie.Need-put-requires-2
-put-requires-2 c κs = search needs
-
 same-length : tie.Need-same-length
 same-length c = search needs
 
 returns : tie.Need-returns
-returns c = search put-refusal
+returns c = search refused-line
 
 pub put-refused-spec : {M : Type 1} → statement M
-put-refused-spec =
-    tie.close
-    (tie.spec
-    slice-aggregate-put
-    put-requires
-    number-requires
-    put-number-requires
-    put-name-requires
-    slice-aggregate-put-2
-    put-requires-2
-    same-length
-    returns)
+put-refused-spec = tie.close (tie.spec number-requires put-start-requires slice-aggregate-put put-requires same-length returns)

@@ -1,7 +1,7 @@
 -- `write::write` meets its contract.
 -- Assumes nothing.
 use borrow.Author.Needs.{needs}
-use Rattle.write.proofs.Ways.{unread, read-p, read-accepted, no-column, no-row, no-width, read-target, stale, ahead, current}
+use Rattle.write.proofs.Ways.{unread, read-p, read-accepted, no-column, no-row, no-width, read-target, handed-on, current}
 use Rattle.write.proofs.write.Statement.{statement}
 use Rattle.write.proofs.write.Tie as tie
 
@@ -47,35 +47,23 @@ returns-4 c = search no-width
 age-of-requires : tie.Need-age-of-requires
 age-of-requires c κs = (search read-accepted, search needs)
 
-enum-told-2 : tie.Need-enum-told-2
-enum-told-2 c = search needs
-
-accept-requires : tie.Need-accept-requires
-accept-requires c κs = search read-target
-
-enum-told-3 : tie.Need-enum-told-3
-enum-told-3 c = search needs
-
-enum-told-4 : tie.Need-enum-told-4
-enum-told-4 c = search needs
+is-current-requires : tie.Need-is-current-requires
+is-current-requires c κs = search needs
 
 same-length-5 : tie.Need-same-length-5
 same-length-5 c = search needs
 
 returns-5 : tie.Need-returns-5
-returns-5 c = search current
+returns-5 c = search handed-on
+
+accept-requires : tie.Need-accept-requires
+accept-requires c κs = search read-target
 
 same-length-6 : tie.Need-same-length-6
 same-length-6 c = search needs
 
 returns-6 : tie.Need-returns-6
-returns-6 c = search stale
-
-same-length-7 : tie.Need-same-length-7
-same-length-7 c = search needs
-
-returns-7 : tie.Need-returns-7
-returns-7 c = search ahead
+returns-6 c = search current
 
 pub write-spec : {M : Type 1} → statement M
 write-spec =
@@ -95,13 +83,9 @@ write-spec =
     same-length-4
     returns-4
     age-of-requires
-    enum-told-2
-    accept-requires
-    enum-told-3
-    enum-told-4
+    is-current-requires
     same-length-5
     returns-5
+    accept-requires
     same-length-6
-    returns-6
-    same-length-7
-    returns-7)
+    returns-6)
