@@ -115,8 +115,8 @@ airsaffron_answer airsaffron_check(const uint8_t *image, size_t image_length);
  * Writes a strip of B bytes to row `row` of data column `column`, where `base` is the column's revision: puts it in place, adds its difference to
  * parity, and sets the revision to base + 1 modulo 2^32.
  * first: the new revision; second: how many parity strips the difference was added to. Refusals: reading, COLUMN, ROW, WIDTH, then STALE where
- * base is 1 to 2^31 behind the revision modulo 2^32, AHEAD where it is any other. With STALE first is that distance d: where so many writes to the
- * column were accepted since `base` was its revision, the base is that many notes behind. With AHEAD first is 2^32 - d.
+ * base is 1 to 2^31 behind the revision modulo 2^32, AHEAD where it is any other. Beside STALE first is how far base is behind: the number of writes
+ * to the column that were accepted since base was its revision, where those are at most 2^31. Beside AHEAD first is how far base is ahead.
  */
 airsaffron_answer airsaffron_write(uint8_t *image, size_t image_length, uint64_t column, uint64_t row, uint32_t base, const uint8_t *strip,
                                    size_t strip_length);
@@ -126,7 +126,7 @@ airsaffron_answer airsaffron_write(uint8_t *image, size_t image_length, uint64_t
  * complete image, and what lost columns held does not matter. Where `column` itself is lost its old strip is restored first, and only present parity
  * and the revision move. Bytes of lost columns stay. With `lost` 0 it is `airsaffron_write`.
  * first: the new revision; second: how many strips of present parity columns the difference was added to. Refusals: reading, COLUMN for `column` or
- * a bit of `lost`, ROW, WIDTH, MANY, then STALE or AHEAD with the distance as first.
+ * a bit of `lost`, ROW, WIDTH, MANY, then STALE or AHEAD, with first as above.
  */
 airsaffron_answer airsaffron_write_away(uint8_t *image, size_t image_length, uint64_t lost, uint64_t column, uint64_t row, uint32_t base,
                                         const uint8_t *strip, size_t strip_length);

@@ -34,7 +34,7 @@ pub data Bases : List Entry → Type 0 where
 abbrev pub notes-behind : ℕ → Answer
 notes-behind n = record { refusal = numberOf Stale; revision = 0; count = 0; distance = n }
 
--- s is the image by now, told its answers, and n writes to column i were accepted since the base b was current
+-- n writes to column i were accepted since the base b was current; s is the image by now, and `told` gives a call's answers
 pub record Three-notes-behind (told : List ℕ → Write → Answer) (s : List ℕ) (q : Params) (i b n : ℕ) : Type 0 where
   -- the base is judged older by n
   pub older : judged (revisionOf s i) b ≡ Older n

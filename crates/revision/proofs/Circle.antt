@@ -1,6 +1,6 @@
 -- "d = 0 is accepted; 1 to 2^31 is STALE; above is AHEAD", "behind by d, or ahead by 2^32 - d": what the comparison says of every pair of revisions.
 -- Assumes nothing.
-use Prim.Native.Nat.{ℕ, _+_, _-_, _%_, _<_, _≤_, _^_}
+use Prim.Native.Nat.{ℕ, _-_, _<_, _≤_, _^_}
 use mathlib.Core.Bool.{Bool, true, false, false≢true}
 use mathlib.Core.Logic.{_≢_, _↔_}
 use mathlib.Core.Path.{_≡_, refl, sym, ap, _∙_}
