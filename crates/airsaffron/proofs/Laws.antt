@@ -1,8 +1,13 @@
 -- The three numbers of an answer, by the case of the answer behind it; and the shape that a reading leaves.
 -- Assumes nothing.
 use Prim.Native.Nat.{ℕ}
+use mathlib.Core.Bool.{Bool, true, false}
 use mathlib.Core.List.{List}
-use mathlib.Core.Path.{_≡_, sym, ap, ap₂, _∙_}
+use mathlib.Core.Path.{_≡_, refl, sym, ap, ap₂, _∙_}
+use native.Mathlib.Omega.{arith}
+use lib.Dec.{eqb}
+use borrow.Author.Tests.{eqb-true}
+use Rattle.laws.specs.Choose.{choose}
 use Rattle.refusal.specs.declared.Refusal.{Refusal}
 use Rattle.refusal.specs.Number.{numberOf}
 use Rattle.stripe.specs.declared.Params.{Params}
@@ -15,20 +20,34 @@ use Rattle.refusal.specs.declared.Outcome.{Outcome}
 use Rattle.refusal.specs.declared.Outcome.the-variants.{Done, Refused as NoOutcome}
 use Rattle.parity.specs.declared.Checkup.{Checkup}
 use Rattle.parity.specs.declared.Checkup.the-variants.{Wrong, Refused as Unchecked}
+use Rattle.revision.proofs.Circle.{none-apart}
 use Rattle.revision.specs.declared.Age.{Age}
 use Rattle.revision.specs.Revision.{age-number, age-distance}
 use Rattle.write.specs.declared.Written.{Written}
 use Rattle.write.specs.declared.Written.the-variants.{Accepted, Aged, Refused as Unwritten}
 use Rattle.airsaffron.specs.declared.Answer.{Answer}
-use Rattle.airsaffron.specs.Given.{refused-given, element-given, outcome-given, checkup-given, aged-given, written-given, reading-given, shape-left}
+use Rattle.airsaffron.specs.Given.{refused-given, element-given, outcome-given, checkup-given, written-given, reading-given, shape-left}
 
 -- ---- the numbers of an answer
 
 pub refused-is : (e : Refusal) (n : ℕ) → n ≡ numberOf e → _≡_ {A = Answer} (record { refusal = n; first = 0; second = 0 }) (refused-given e)
 refused-is e n h = ap (λ (m : ℕ). record { refusal = m; first = 0; second = 0 }) h
 
-pub aged-is : (g : Age) (n d : ℕ) → n ≡ age-number g → d ≡ age-distance g → _≡_ {A = Answer} (record { refusal = n; first = d; second = 0 }) (aged-given g)
-aged-is g n d h k = ap₂ (λ (m e : ℕ). record { refusal = m; first = e; second = 0 }) h k
+-- the first number of an age is its distance
+distance-first : (g : Age) → age-distance g ≡ choose (eqb (age-number g) 0) 0 (age-distance g)
+distance-first g = go (eqb (age-number g) 0) refl
+  where
+    go : (b : Bool) → eqb (age-number g) 0 ≡ b → age-distance g ≡ choose b 0 (age-distance g)
+    go true e = let z = eqb-true (age-number g) 0 e in none-apart g (λ f. omega (arith, f, z)) (λ f. omega (arith, f, z))
+    go false e = refl
+
+pub aged-is : (g : Age) (n d : ℕ) → n ≡ age-number g → d ≡ age-distance g → _≡_ {A = Answer} (record { refusal = n; first = d; second = 0 }) (written-given (Aged g))
+aged-is g n d h k = ap₂ (λ (m e : ℕ). record { refusal = m; first = e; second = 0 }) h (k ∙ distance-first g)
+
+-- and that of another refusal is 0
+none-first : (b : Bool) → _≡_ {A = ℕ} 0 (choose b 0 0)
+none-first true = refl
+none-first false = refl
 
 module _ (x : Answer) where
   module _ (a b : ℕ) (h : x ≡ record { refusal = 0; first = a; second = b }) where
@@ -44,7 +63,7 @@ module _ (x : Answer) where
   pub done-is : (y : Outcome) → x ≡ record { refusal = 0; first = 0; second = 0 } → y ≡ Done → x ≡ outcome-given y
   done-is y h e = h ∙ ap outcome-given (sym e)
 
-  pub aged-told : (y : Written) (g : Age) → x ≡ aged-given g → y ≡ Aged g → x ≡ written-given y
+  pub aged-told : (y : Written) (g : Age) → x ≡ written-given (Aged g) → y ≡ Aged g → x ≡ written-given y
   aged-told y g h e = h ∙ ap written-given (sym e)
 
   module _ (d : Refusal) (h : x ≡ refused-given d) where
@@ -58,7 +77,7 @@ module _ (x : Answer) where
     no-checkup y e = h ∙ ap checkup-given (sym e)
 
     pub no-write : (y : Written) → y ≡ Unwritten d → x ≡ written-given y
-    no-write y e = h ∙ ap written-given (sym e)
+    no-write y e = h ∙ (ap (λ (n : ℕ). record { refusal = numberOf d; first = n; second = 0 }) (none-first (eqb (numberOf d) 0)) ∙ ap written-given (sym e))
 
 -- ---- `airsaffron_read`, after reading: v is what the reading gave
 

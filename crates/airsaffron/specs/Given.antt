@@ -3,6 +3,8 @@
 -- Assumes nothing.
 use Prim.Native.Nat.{ℕ}
 use mathlib.Core.List.{List}
+use lib.Dec.{eqb}
+use Rattle.laws.specs.Choose.{choose}
 use Rattle.refusal.specs.declared.Refusal.{Refusal}
 use Rattle.refusal.specs.Number.{numberOf}
 use Rattle.stripe.specs.declared.Reading.{Reading}
@@ -13,10 +15,8 @@ use Rattle.ring.specs.Answer.{element-number, element-value}
 use Rattle.refusal.specs.declared.Outcome.{Outcome}
 use Rattle.parity.specs.declared.Checkup.{Checkup}
 use Rattle.parity.specs.Answer.{outcome-number, checkup-number, checkup-value}
-use Rattle.revision.specs.declared.Age.{Age}
-use Rattle.revision.specs.Revision.{age-number, age-distance}
 use Rattle.write.specs.declared.Written.{Written}
-use Rattle.write.specs.declared.Written.the-variants.{Accepted, Aged, Refused}
+use Rattle.write.specs.Written.{written-number, written-revision, written-count, written-distance}
 use Rattle.airsaffron.specs.declared.Answer.{Answer}
 
 -- a refusal, alone
@@ -35,15 +35,13 @@ outcome-given x = record { refusal = outcome-number x; first = 0; second = 0 }
 abbrev pub checkup-given : Checkup → Answer
 checkup-given x = record { refusal = checkup-number x; first = checkup-value x; second = 0 }
 
--- "On STALE and AHEAD, document 01's rule that numbers beside a refusal are 0 gives way to this distance."
-abbrev pub aged-given : Age → Answer
-aged-given g = record { refusal = age-number g; first = age-distance g; second = 0 }
-
--- write: the new revision and the count; or the refusal, on STALE and AHEAD with the distance
+-- write: the new revision, and the count; "On STALE and AHEAD, document 01's rule that numbers beside a refusal are 0 gives way to this distance."
 abbrev pub written-given : Written → Answer
-written-given (Accepted n c) = record { refusal = 0; first = n; second = c }
-written-given (Aged g) = aged-given g
-written-given (Refused e) = refused-given e
+written-given x = record {
+  refusal = written-number x;
+  first = choose (eqb (written-number x) 0) (written-revision x) (written-distance x);
+  second = written-count x;
+}
 
 -- read: nothing more; the lent shape has p, k, r, B, or is left
 abbrev pub reading-given : Reading → Answer

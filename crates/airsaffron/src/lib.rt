@@ -13,11 +13,12 @@ ghost use Rattle.ring.specs.Answer.{product-answer, divide-answer};
 ghost use Rattle.stripe.specs.declared.Reading.the-variants.{Stripe};
 ghost use Rattle.stripe.specs.Reading.{readOf, reading-values};
 ghost use Rattle.parity.specs.Answer.{makeOf, refillOf, checkOf};
+ghost use Rattle.write.specs.declared.Written.the-variants.{Aged};
 ghost use Rattle.write.specs.Written.{writeOf};
 ghost use Rattle.away.specs.Away.{awayOf};
 ghost use Rattle.rebuild.specs.Answer.{rebuildOf, restoreOf, shown-at};
 ghost use Rattle.pattern.specs.Pattern.{asked};
-ghost use Rattle.airsaffron.specs.Given.{refused-given, element-given, outcome-given, checkup-given, aged-given, written-given, reading-given, shape-left, shown-given};
+ghost use Rattle.airsaffron.specs.Given.{refused-given, element-given, outcome-given, checkup-given, written-given, reading-given, shape-left, shown-given};
 
 // The number of the refusal, or 0, and the values; every one that the call does not name is 0.
 #[repr(C)]
@@ -81,7 +82,7 @@ fn checkup(c: Checkup) -> Answer
 
 // A base that is not current: the refusal, and the distance beside it.
 fn aged(age: Age) -> Answer
-    ensures { λ x. ⌜ x ≡ aged-given age ⌝ }
+    ensures { λ x. ⌜ x ≡ written-given (Aged age) ⌝ }
 {
     Answer {
         refusal: age.number(),

@@ -57,13 +57,13 @@ short Element = omega arith
 named-age : (g : Age) → named (age-number g) ≡ age-name g
 unfolding parts before-first
 named-age Current = refl
-named-age (Older d) = refl
-named-age (Newer d) = refl
+named-age (Older d) = named-refusal Stale
+named-age (Newer d) = named-refusal Ahead
 
 short-age : (g : Age) → length (age-name g) ≤ 8
 short-age Current = omega arith
-short-age (Older d) = omega arith
-short-age (Newer d) = omega arith
+short-age (Older d) = short Stale
+short-age (Newer d) = short Ahead
 
 -- the number m is that of a refusal, or of an age
 module _ (m : ℕ) where

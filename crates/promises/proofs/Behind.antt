@@ -29,7 +29,7 @@ use Rattle.store.specs.Kinds.{keyed}
 use Rattle.store.specs.Lists.{keep}
 use Rattle.store.specs.Store.{Write, Entry, Logged, sound, accepts, reply, answer, after, put}
 use Rattle.promises.proofs.Away.{agrees-refl, agrees-sym, revisions-alike, small-z, told-alike, as-if-rebuilt}
-use Rattle.promises.proofs.Cover.{revision-lt}
+use Rattle.promises.proofs.Cover.{revision-lt, bytes-revision}
 use Rattle.promises.proofs.Demand2.{rebuilt-image}
 use Rattle.promises.proofs.Demand3.{Good, good-first, stays, steps, age-zero, told-sound}
 use Rattle.promises.proofs.Writes.{rules, view, aged, replied, told-is}
@@ -54,15 +54,12 @@ module _ (w : Write) (n : ℕ) (c : ℕ → ℕ → ℕ) (hn : n < 2 ^ 32) (hb :
   says true false z = no-distance 9 (λ e. omega (arith, e)) (λ e. omega (arith, e))
   says false y z = no-distance 8 (λ e. omega (arith, e)) (λ e. omega (arith, e))
 
-revision-of : (s : List ℕ) (i : ℕ) → Bytes s → revisionOf s i < 2 ^ 32
-revision-of s i b = revision-lt s i (λ m l. b (revision-at i + m))
-
 -- "The revision comparison now answers with the distance as well", and "Write .. hand[s] it on"
 pub distance-told : (s : List ℕ) (q : Params) (w : Write) → Image s q → Bytes s → w .base < 2 ^ 32 → Says-distance s w (told s w)
 unfolding answer reply sound keyed
 distance-told s q w i b h =
     subst (Says-distance s w) (sym (told-is s q w i))
-    (says w (revisionOf s (w .column)) (count q) (revision-of s (w .column) b) h (ltb (w .column) (q .k)) (ltb (w .row) (rows q)) (eqb (length (w .strip)) (q .b)))
+    (says w (revisionOf s (w .column)) (count q) (bytes-revision s (w .column) b) h (ltb (w .column) (q .k)) (ltb (w .row) (rows q)) (eqb (length (w .strip)) (q .b)))
 
 -- "and the degraded write"
 pub distance-told-away : (s : List ℕ) (q : Params) (m : ℕ) (w : Write) → Pattern q m → Image s q → Bytes s → w .base < 2 ^ 32 → Says-distance s w (told-away m s w)

@@ -135,3 +135,6 @@ revision-lt s i h =
     let z : revision-at i + 0 ≡ revision-at i = omega arith in
     let y : revision-at i + 3 ≡ revision-at i + 2 + 1 = omega arith in
     omega (arith, subst (λ (k : ℕ). getD s k 0 < 256) z (h 0 (omega arith)), h 1 (omega arith), h 2 (omega arith), subst (λ (k : ℕ). getD s k 0 < 256) y (h 3 (omega arith)))
+
+pub bytes-revision : (s : List ℕ) (i : ℕ) → ((o : ℕ) → getD s o 0 < 256) → revisionOf s i < 2 ^ 32
+bytes-revision s i b = revision-lt s i (λ m l. b (revision-at i + m))
