@@ -52,13 +52,14 @@ enum {
     AIRSAFFRON_WIDTH = 7,     /* data or new strip of wrong length */
     AIRSAFFRON_COLUMN = 8,    /* write: column not below k; pattern or shown column not below k+r */
     AIRSAFFRON_ROW = 9,       /* row not below p-1 */
-    AIRSAFFRON_STALE = 10,    /* base older; first: how many revisions behind, 1 to 2^31 */
+    AIRSAFFRON_STALE = 10,    /* base older; first: how many revisions behind, 1 to 2^31 - 1 */
     AIRSAFFRON_AHEAD = 11,    /* base newer; first: how many revisions ahead, 1 to 2^31 - 1 */
     AIRSAFFRON_MANY = 12,     /* more than r columns lost */
     AIRSAFFRON_ROOM = 13,     /* make: buffer not L bytes; scratch below B */
     AIRSAFFRON_LONG = 14,     /* report program only, no call here: input above 65,536 bytes */
     AIRSAFFRON_EXPONENT = 15, /* a or b not below p, or a = b */
-    AIRSAFFRON_ELEMENT = 16   /* a word with odd weight or a bit at p or above */
+    AIRSAFFRON_ELEMENT = 16,  /* a word with odd weight or a bit at p or above */
+    AIRSAFFRON_UNCLEAR = 17   /* base exactly 2^31 from the revision: which is newer is not defined */
 };
 
 /* Limits. */
@@ -115,8 +116,9 @@ airsaffron_answer airsaffron_check(const uint8_t *image, size_t image_length);
  * Writes a strip of B bytes to row `row` of data column `column`, where `base` is the column's revision: puts it in place, adds its difference to
  * parity, and sets the revision to base + 1 modulo 2^32.
  * first: the new revision; second: how many parity strips the difference was added to. Refusals: reading, COLUMN, ROW, WIDTH, then STALE where
- * base is 1 to 2^31 behind the revision modulo 2^32, AHEAD where it is any other. Beside STALE first is how far base is behind: the number of writes
- * to the column that were accepted since base was its revision, where those are at most 2^31. Beside AHEAD first is how far base is ahead.
+ * base is 1 to 2^31 - 1 behind the revision modulo 2^32, AHEAD where it is as much ahead, UNCLEAR where they lie exactly 2^31 apart. Beside STALE
+ * first is how far base is behind: the number of writes to the column that were accepted since base was its revision, where those are below 2^31.
+ * Beside AHEAD first is how far base is ahead; beside UNCLEAR it is 0.
  */
 airsaffron_answer airsaffron_write(uint8_t *image, size_t image_length, uint64_t column, uint64_t row, uint32_t base, const uint8_t *strip,
                                    size_t strip_length);
@@ -126,7 +128,7 @@ airsaffron_answer airsaffron_write(uint8_t *image, size_t image_length, uint64_t
  * complete image, and what lost columns held does not matter. Where `column` itself is lost its old strip is restored first, and only present parity
  * and the revision move. Bytes of lost columns stay. With `lost` 0 it is `airsaffron_write`.
  * first: the new revision; second: how many strips of present parity columns the difference was added to. Refusals: reading, COLUMN for `column` or
- * a bit of `lost`, ROW, WIDTH, MANY, then STALE or AHEAD, with first as above.
+ * a bit of `lost`, ROW, WIDTH, MANY, then STALE, AHEAD or UNCLEAR, with first as above.
  */
 airsaffron_answer airsaffron_write_away(uint8_t *image, size_t image_length, uint64_t lost, uint64_t column, uint64_t row, uint32_t base,
                                         const uint8_t *strip, size_t strip_length);

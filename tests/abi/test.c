@@ -9,7 +9,7 @@
 #include <string.h>
 
 static unsigned passed, failed;
-static int seen[17];
+static int seen[18];
 
 static void expect(int holds, const char *what) {
     if (holds) {
@@ -291,7 +291,8 @@ static void test_write(void) {
     take_back(s);
 
     write_refuses(lend(I, I_LENGTH), 0, 1, UINT32_MAX, 1, AIRSAFFRON_STALE, 1, "P13 revision 0, base 4294967295");
-    write_refuses(lend(I, I_LENGTH), 0, 0, UINT32_C(0x80000000), 1, AIRSAFFRON_STALE, UINT64_C(0x80000000), "2^31 behind");
+    write_refuses(lend(I, I_LENGTH), 0, 0, UINT32_C(0x80000000), 1, AIRSAFFRON_UNCLEAR, 0, "2^31 apart");
+    write_refuses(lend(I, I_LENGTH), 1, 0, UINT32_C(0x80000007), 1, AIRSAFFRON_UNCLEAR, 0, "2^31 from revision 7");
     write_refuses(lend(I, I_LENGTH), 0, 0, UINT32_C(0x7FFFFFFF), 1, AIRSAFFRON_AHEAD, UINT64_C(0x7FFFFFFF), "2^31 + 1 behind");
     write_refuses(lend(I, I_LENGTH), 0, 0, UINT32_C(0x80000001), 1, AIRSAFFRON_STALE, UINT64_C(0x7FFFFFFF), "2^31 - 1 behind");
     write_refuses(lend(I, I_LENGTH), 1, 0, 0, 1, AIRSAFFRON_STALE, 7, "base 0 of revision 7");
@@ -300,6 +301,7 @@ static void test_write(void) {
     write_refuses(lend(I, I_LENGTH), UINT64_MAX, 0, 0, 1, AIRSAFFRON_COLUMN, 0, "column 2^64 - 1");
     write_refuses(lend(I, I_LENGTH), 1, 4, 9, 2, AIRSAFFRON_ROW, 0, "write ROW before WIDTH");
     write_refuses(lend(I, I_LENGTH), 1, 3, 9, 2, AIRSAFFRON_WIDTH, 0, "write WIDTH before AHEAD");
+    write_refuses(lend(I, I_LENGTH), 1, 3, UINT32_C(0x80000007), 2, AIRSAFFRON_WIDTH, 0, "write WIDTH before UNCLEAR");
     write_refuses(lend(I, I_LENGTH), 1, 3, 7, 0, AIRSAFFRON_WIDTH, 0, "an empty strip");
     take_back(v);
     take_back(f);
@@ -421,8 +423,12 @@ static void test_write_away(void) {
     away_refuses(2, 1, 3, 7, 0, AIRSAFFRON_WIDTH, 0, "an empty strip away");
     away_refuses(7, 1, 3, 6, 1, AIRSAFFRON_MANY, 0, "MANY before STALE");
     away_refuses(14, 1, 3, 8, 1, AIRSAFFRON_MANY, 0, "MANY before AHEAD");
+    away_refuses(7, 1, 3, UINT32_C(0x80000007), 1, AIRSAFFRON_MANY, 0, "MANY before UNCLEAR");
     away_refuses(6, 1, 3, 6, 1, AIRSAFFRON_STALE, 1, "away base 6");
     away_refuses(6, 1, 3, 8, 1, AIRSAFFRON_AHEAD, 1, "away base 8");
+    away_refuses(6, 1, 3, UINT32_C(0x80000006), 1, AIRSAFFRON_AHEAD, UINT64_C(0x7FFFFFFF), "away 2^31 - 1 ahead");
+    away_refuses(6, 1, 3, UINT32_C(0x80000007), 1, AIRSAFFRON_UNCLEAR, 0, "away 2^31 apart");
+    away_refuses(6, 1, 3, UINT32_C(0x80000008), 1, AIRSAFFRON_STALE, UINT64_C(0x7FFFFFFF), "away 2^31 - 1 behind");
 }
 
 /* Restore and show refuse alike. */
@@ -526,7 +532,7 @@ int main(void) {
     test_write_away();
     test_restore_and_show();
     test_limits();
-    for (n = 0; n < 17; n++) {
+    for (n = 0; n < 18; n++) {
         expect(seen[n] == (n != AIRSAFFRON_LONG), "every number but LONG was answered");
     }
     printf("%u passed, %u failed\n", passed, failed);

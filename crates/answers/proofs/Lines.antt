@@ -10,7 +10,7 @@ use lib.ListN.{length, getD, take, set, length-append, length-take}
 use lib.Seq.{take-all, take-suc-set, take-suc}
 use Rattle.io.specs.Digits.{digits, Fewest}
 use Rattle.answers.proofs.Digits.{digits-few, digits-text}
-use Rattle.answers.specs.Line.{Put, text, lineOf, spaced, refused-word}
+use Rattle.answers.specs.Line.{Put, text, lineOf, bytes, spaced}
 use Rattle.answers.specs.declared.Answer.{Answer}
 use Rattle.answers.specs.declared.Answer.the-variants.{Said}
 
@@ -43,7 +43,7 @@ pub put-spaced : (s t u : List ℕ) (n x y : ℕ) (w : List ℕ) → Put s t n x
 put-spaced s t u n x y w a b = put-two s t u n x y (32 ∷ []) w a b
 
 -- the start of a refusal's line ends before place 38
-pub start-end : (s t : List ℕ) (x y z : ℕ) → Put s t 0 x refused-word → y ≤ x + 21 → z ≤ y + 9 → z ≤ 37
+pub start-end : (s t : List ℕ) (x y z : ℕ) → Put s t 0 x (bytes "refused") → y ≤ x + 21 → z ≤ y + 9 → z ≤ 37
 start-end s t x y z p h k = omega (arith, p .place)
 
 -- nothing is put

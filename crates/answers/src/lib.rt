@@ -1,4 +1,4 @@
-// Answers, each a line on standard output: `done ..` or `refused N NAME`, on STALE and AHEAD with the distance behind it.
+// Answers, each a line on standard output: `done ..` or `refused N NAME`, with the distance behind it where a base is not current.
 use refusal::Refusal;
 use revision::Age;
 ghost use Prim.Native.Nat.{_+_, _≤_};
@@ -52,20 +52,20 @@ fn put_number(line: &mut [u8], n: usize, number: u64) -> usize
 
 // The same with the name that has a number: that word of all names.
 fn put_name(line: &mut [u8], n: usize, number: u64) -> usize
-    requires { ⌜ (n + 9 ≤ length (now line)) × (length (named number) ≤ 8) ⌝ }
+    requires { ⌜ n + 9 ≤ length (now line) ⌝ }
     ensures { λ x. ⌜ Put (now (line .entry)) (now (line .exit)) n x (spaced (named number)) ⌝ }
     ensures { λ x. ⌜ x ≤ n + 9 ⌝ }
 {
     let names =
-        b" CUT TAIL COUNT PRIME SHAPE STRIP WIDTH COLUMN ROW STALE AHEAD MANY ROOM LONG EXPONENT ELEMENT";
+        b" CUT TAIL COUNT PRIME SHAPE STRIP WIDTH COLUMN ROW STALE AHEAD MANY ROOM LONG EXPONENT ELEMENT UNCLEAR";
     let m = put(line, n, b" ");
     put(line, m, words::word(names, b' ', number as usize))
 }
 
 // The start of a refusal's line: its number and its name.
 fn put_start(line: &mut [u8], number: u64) -> usize
-    requires { ⌜ (64 ≤ length (now line)) × (length (named number) ≤ 8) ⌝ }
-    ensures { λ x. ⌜ Put (now (line .entry)) (now (line .exit)) 0 x (refused-start number (named number)) ⌝ }
+    requires { ⌜ 64 ≤ length (now line) ⌝ }
+    ensures { λ x. ⌜ Put (now (line .entry)) (now (line .exit)) 0 x (refused-start number) ⌝ }
     ensures { λ x. ⌜ x ≤ 37 ⌝ }
 {
     let a = put(line, 0, b"refused");

@@ -315,6 +315,7 @@ depot report IMAGE                               parameters, revisions, each par
 depot help                                       these lines
 LOST: columns such as 0,3, or - for none; data columns come first, then parity. DATA, STRIP and IMAGE are files.
 refused 10 STALE 3: BASE is three notes behind the column's revision; refused 11 AHEAD 3: three ahead of it.
+refused 17 UNCLEAR 0: they lie exactly 2^31 apart, so that nobody can tell which is newer.
 ",
     );
     Answer::Said

@@ -7,6 +7,7 @@ use comparing::of_outcome;
 use comparing::of_written;
 use comparing::slices_apart;
 use second_ground::Answer;
+use second_ground::HALF_CIRCLE;
 use second_ground::answered;
 use second_ground::shaped;
 use stripe::Checked;
@@ -183,17 +184,27 @@ fn write_due(
     image_due(t1, one, two, image)
 }
 
-// A base before the revision on the circle is STALE, behind by 1, and one after it AHEAD, by 1; a changed strip also changes coefficient p-1, so rows 0 and
-// 2 of parity 0 move.
+// A base before the revision on the circle is STALE, behind by 1, one after it AHEAD, by 1, and one half the circle away UNCLEAR; a changed strip also
+// changes coefficient p-1, so rows 0 and 2 of parity 0 move.
 fn writes(t: Tally, slip: u64) -> Tally {
     let mut one = example();
     let mut two = example();
     let stale = answered(10, 1, 0);
     let ahead = answered(11, 1, 0);
+    let unclear = answered(17, 0, 0);
     let t1 = write_due(t, &mut one, &mut two, 4294967295, stale, &example(), slip);
     let t2 = write_due(t1, &mut one, &mut two, 1, ahead, &example(), slip);
-    write_due(
+    let t3 = write_due(
         t2,
+        &mut one,
+        &mut two,
+        HALF_CIRCLE,
+        unclear,
+        &example(),
+        slip,
+    );
+    write_due(
+        t3,
         &mut one,
         &mut two,
         0,
@@ -238,17 +249,29 @@ fn away_due(
     image_due(t1, one, two, image)
 }
 
-// Three columns away are MANY, whatever the base; with two away a base one behind is STALE by 1. Then the revision and rows 0 to 2 of parity 1 move: lost
-// columns stay.
+// Three columns away are MANY, whatever the base; with two away a base one behind is STALE by 1, and one half the circle away UNCLEAR. Then the revision
+// and rows 0 to 2 of parity 1 move: lost columns stay.
 fn away_writes(t: Tally, slip: u64) -> Tally {
     let mut one = away_example();
     let mut two = away_example();
     let many = answered(12, 0, 0);
     let stale = answered(10, 1, 0);
+    let unclear = answered(17, 0, 0);
     let t1 = away_due(t, &mut one, &mut two, 7, 6, many, &away_example(), slip);
     let t2 = away_due(t1, &mut one, &mut two, 6, 6, stale, &away_example(), slip);
-    away_due(
+    let far = std::num::wrapping_add_u32(7, HALF_CIRCLE);
+    let t3 = away_due(
         t2,
+        &mut one,
+        &mut two,
+        6,
+        far,
+        unclear,
+        &away_example(),
+        slip,
+    );
+    away_due(
+        t3,
         &mut one,
         &mut two,
         6,

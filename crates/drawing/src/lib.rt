@@ -1,4 +1,5 @@
 // Numbers, shapes, writes and patterns drawn from the number of a case, so that each run has the same ones.
+use second_ground::HALF_CIRCLE;
 use second_ground::Shape;
 use second_ground::column_at;
 use second_ground::column_size;
@@ -207,13 +208,13 @@ pub fn start_of(c: usize, column: usize) -> u64 {
     }
 }
 
-// The base of write w: about as far from the start as the column may be by then, or half the circle off, up to 4 more or less.
+// The base of write w: about as far from the start as the column may be by then; in one of eight exactly half the circle off, in one more up to 4 besides.
 fn base_of(q: Shape, c: usize, w: usize, column: usize) -> u32 {
     let near = add(over(w, times(3, add(q.k, 1))), below(c, add(200, w), 2));
-    let far = if seldom(c, add(220, w), 8) {
-        add(2147483644, below(c, add(340, w), 9)) as u64
-    } else {
-        0
+    let far = match below(c, add(220, w), 8) {
+        0 => HALF_CIRCLE as u64,
+        1 => add(2147483644, below(c, add(340, w), 9)) as u64,
+        _ => 0,
     };
     let distance = std::num::wrapping_add_u64(near as u64, far);
     low_half(std::num::wrapping_add_u64(start_of(c, column), distance))

@@ -77,9 +77,9 @@ fn run(one: &mut [u8], two: &mut [u8], room: &mut [u8]) {
     tell(slips);
     telling::tell_refusals(
         run_groups(limits.refusals | slips.refusals, 10, one, two, room),
-        17,
+        18,
     );
-    self_test(9, one, two, room);
+    self_test(10, one, two, room);
 }
 
 fn main() {

@@ -1,9 +1,8 @@
 -- "Say how far behind": what the distance beside an answer says, and that n writes accepted since a base was current leave it n notes behind.
 -- Assumes nothing.
-use Prim.Native.Nat.{ℕ, _+_, _%_, _<_, _≤_, _^_}
+use Prim.Native.Nat.{ℕ, _+_, _-_, _%_, _<_, _≤_, _^_}
 use mathlib.Core.Bool.{Bool, true, false, _&&_}
 use mathlib.Core.List.{List, [], _∷_}
-use mathlib.Core.Logic.{_≢_}
 use mathlib.Core.Path.{_≡_, refl, sym, ap, ap₂, subst, _∙_}
 use native.Mathlib.Omega.{arith}
 use lib.Dec.{eqb, ltb}
@@ -40,19 +39,24 @@ use Rattle.promises.specs.Demand3.{Answer, answer-of, is-accepted, told,
 -- ---- what the distance says
 
 module _ (w : Write) (n : ℕ) (c : ℕ → ℕ → ℕ) (hn : n < 2 ^ 32) (hb : w .base < 2 ^ 32) where
-  no-distance : (k : ℕ) → k ≢ 10 → k ≢ 11 → Distance-told n (w .base) k 0
-  no-distance k f g = record { stale = λ e. absurd (f e); ahead = λ e. absurd (g e); else-none = λ a b. refl }
+  no-distance : (k : ℕ) → k < 10 → Distance-told n (w .base) k 0
+  no-distance k h = record {
+    stale = λ e. absurd (omega (arith, e));
+    ahead = λ e. absurd (omega (arith, e));
+    unclear = λ e. absurd (omega (arith, e));
+    else-none = λ a b. refl;
+  }
 
   says-aged : (x : Bool)
       → let a = answer-of (choose x (Accepted (renewed (w .base)) (c (w .column) (w .row))) (Aged (judged n (w .base)))) in Distance-told n (w .base) (a .refusal) (a .distance)
-  says-aged true = no-distance 0 (λ e. omega (arith, e)) (λ e. omega (arith, e))
+  says-aged true = no-distance 0 (omega arith)
   says-aged false = age-told n (w .base) hn hb
 
   says : (x y z : Bool) → let a = replied c w x y z (judged n (w .base)) in Distance-told n (w .base) (a .refusal) (a .distance)
   says true true true = says-aged (is-current (judged n (w .base)))
-  says true true false = no-distance 7 (λ e. omega (arith, e)) (λ e. omega (arith, e))
-  says true false z = no-distance 9 (λ e. omega (arith, e)) (λ e. omega (arith, e))
-  says false y z = no-distance 8 (λ e. omega (arith, e)) (λ e. omega (arith, e))
+  says true true false = no-distance 7 (omega arith)
+  says true false z = no-distance 9 (omega arith)
+  says false y z = no-distance 8 (omega arith)
 
 -- "The revision comparison now answers with the distance as well", and "Write .. hand[s] it on"
 pub distance-told : (s : List ℕ) (q : Params) (w : Write) → Image s q → Bytes s → w .base < 2 ^ 32 → Says-distance s w (told s w)
@@ -103,7 +107,7 @@ module _ (q : Params) (i : ℕ) (hi : i < q .k) (tell : List ℕ → Write → A
       (keep (λ x. is-accepted (x .answer) && eqb (x .entry .write .column) i) (image-log tell leave (leave s (e .write)) es))
       (is-accepted (tell s (e .write)) && eqb (e .write .column) i)
 
-  notes-since : (es : List Entry) → Bases es → (s : List ℕ) → Readable q s → let n = accepted-to i (image-log tell leave s es) in 1 ≤ n → n ≤ 2 ^ 31
+  notes-since : (es : List Entry) → Bases es → (s : List ℕ) → Readable q s → let n = accepted-to i (image-log tell leave s es) in 1 ≤ n → n ≤ 2 ^ 31 - 1
       → judged (revisionOf (image-last tell leave s es) i) (revisionOf s i) ≡ Older n
   notes-since es hs s g l k =
       older-exactly (revisionOf (image-last tell leave s es) i) (revisionOf s i)
@@ -157,9 +161,9 @@ module _ (q : Params) (i : ℕ) (hi : i < q .k) (s : List ℕ) (w : Write) (g : 
       steps s q s w (good q s w g) .revisions i 0 hi (omega (arith, g .accepted .admitted .p-low)) ∙ after-revision
       ∙ ap (λ (a : Answer). choose (is-accepted a && eqb (w .column) i) (renewed (revisionOf s i)) (revisionOf s i)) (sym (told-is s q w (g .accepted)))
 
--- "three notes behind": n writes to column i were accepted since its revision was the base, n from 1 to 2^31
+-- "three notes behind": n writes to column i were accepted since its revision was the base, n from 1 to 2^31 - 1
 pub three-notes-behind : (s : List ℕ) (q : Params) → Image s q → Bytes s → (es : List Entry) → Bases es → (i : ℕ) → i < q .k
-    → let n = accepted-to i (answers s es) in 1 ≤ n → n ≤ 2 ^ 31 → Three-notes-behind told (last-image s es) q i (revisionOf s i) n
+    → let n = accepted-to i (answers s es) in 1 ≤ n → n ≤ 2 ^ 31 - 1 → Three-notes-behind told (last-image s es) q i (revisionOf s i) n
 three-notes-behind s q I b es hs i hi l k =
     let g : Readable q s = record { accepted = I; small = λ o h. b o } in
     let z : Image (last-image s es) q = kept-last q i hi told left (whole-keeps q) (whole-moves q i hi) es s g .accepted in
@@ -206,7 +210,7 @@ away-moves q m P i hi s w g hb =
 
 -- the same, with one sound pattern for the whole list
 pub three-notes-behind-away : (s : List ℕ) (q : Params) (m : ℕ) → Pattern q m → Image s q → Bytes s → (es : List Entry) → Bases es → (i : ℕ) → i < q .k
-    → let n = accepted-to i (answers-away m s es) in 1 ≤ n → n ≤ 2 ^ 31 → Three-notes-behind (told-away m) (last-away m s es) q i (revisionOf s i) n
+    → let n = accepted-to i (answers-away m s es) in 1 ≤ n → n ≤ 2 ^ 31 - 1 → Three-notes-behind (told-away m) (last-away m s es) q i (revisionOf s i) n
 unfolding recounted
 three-notes-behind-away s q m P I b es hs i hi l k =
     let g : Readable q s = record { accepted = I; small = λ o h. b o } in

@@ -2,7 +2,7 @@
 -- Assumes nothing.
 use Prim.Native.Nat.{ℕ}
 use Rattle.refusal.specs.declared.Refusal.{Refusal}
-use Rattle.refusal.specs.declared.Refusal.the-variants.{Cut, Tail, Count, Prime, Shape, Strip, Width, Column, Row, Stale, Ahead, Many, Room, Long, Exponent, Element}
+use Rattle.refusal.specs.declared.Refusal.the-variants.{Cut, Tail, Count, Prime, Shape, Strip, Width, Column, Row, Stale, Ahead, Many, Room, Long, Exponent, Element, Unclear}
 
 abbrev pub numberOf : Refusal → ℕ
 -- image too short
@@ -37,3 +37,5 @@ numberOf Long = 14
 numberOf Exponent = 15
 -- a word with odd weight or a bit at p or above
 numberOf Element = 16
+-- request 3: "The exact half gets a refusal of its own"
+numberOf Unclear = 17

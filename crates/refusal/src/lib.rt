@@ -1,4 +1,4 @@
-// The refusals of document 01, by name and by number.
+// The refusals of document 01 and of the requests since, by name and by number.
 ghost use mathlib.Core.Path.{_≡_};
 ghost use Rattle.refusal.specs.Number.{numberOf};
 
@@ -19,6 +19,7 @@ pub enum Refusal {
     Long,
     Exponent,
     Element,
+    Unclear,
 }
 
 // Done, or the refusal.
@@ -28,7 +29,7 @@ pub enum Outcome {
 }
 
 impl Refusal {
-    // The number that document 01 gives the refusal.
+    // The number that the documents give the refusal.
     pub fn number(self) -> u64
         ensures { λ r. ⌜ r ≡ numberOf self ⌝ }
     {
@@ -49,6 +50,7 @@ impl Refusal {
             Refusal::Long => 14,
             Refusal::Exponent => 15,
             Refusal::Element => 16,
+            Refusal::Unclear => 17,
         }
     }
 }

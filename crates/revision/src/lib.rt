@@ -3,11 +3,15 @@ use refusal::Refusal;
 ghost use mathlib.Core.Path.{_≡_};
 ghost use Rattle.revision.specs.Revision.{distance, judged, renewed, age-number, age-distance, is-current};
 
-// How old the base of a write is: current, behind the revision by so much, or ahead of it.
+// Half the circle: neither of two revisions that lie so far apart is the newer one.
+const HALF: u32 = 2147483648;
+
+// How old the base of a write is: current, behind the revision by so much, ahead of it by so much, or exactly half the circle away.
 pub enum Age {
     Current,
     Older(u32),
     Newer(u32),
+    Unclear,
 }
 
 impl Age {
@@ -19,10 +23,11 @@ impl Age {
             Age::Current => 0,
             Age::Older(_) => Refusal::number(Refusal::Stale),
             Age::Newer(_) => Refusal::number(Refusal::Ahead),
+            Age::Unclear => Refusal::number(Refusal::Unclear),
         }
     }
 
-    // How far the base is behind or ahead; 0 where it is current.
+    // How far the base is behind or ahead; 0 where it is neither.
     pub fn distance(self) -> u32
         ensures { λ x. ⌜ x ≡ age-distance self ⌝ }
     {
@@ -30,6 +35,7 @@ impl Age {
             Age::Current => 0,
             Age::Older(d) => d,
             Age::Newer(d) => d,
+            Age::Unclear => 0,
         }
     }
 
@@ -56,7 +62,10 @@ pub fn judge(n: u32, b: u32) -> Age
     if d == 0 {
         return Age::Current;
     }
-    if d <= 2147483648 {
+    if d == HALF {
+        return Age::Unclear;
+    }
+    if d < HALF {
         return Age::Older(d);
     }
     Age::Newer(behind(b, n))

@@ -1,6 +1,8 @@
 // The second implementation of make, refill, check and write, from document 01 alone: each data strip is added to the parity strips that it is part of. Safe whatever it is handed, and slow.
 use refusal::Refusal;
 use second_ground::Answer;
+use second_ground::HALF_CIRCLE;
+use second_ground::HALVED;
 use second_ground::OPPOSITE;
 use second_ground::PLAIN;
 use second_ground::Shape;
@@ -177,17 +179,33 @@ fn off_by(d: u64, older: bool, slip: u64) -> u64 {
     if older { d } else { left }
 }
 
-// The answer to a base b against a revision n: STALE or AHEAD with the distance beside it, or 0.
+// Whether serial number s is less than t, by the inequalities of RFC 1982; half the circle apart, neither is less than the other.
+fn less_serial(s: u64, t: u64, slip: u64) -> bool {
+    if slip == PLAIN {
+        return s < t;
+    }
+    let apart = if s < t {
+        std::num::wrapping_sub_u64(t, s)
+    } else {
+        std::num::wrapping_sub_u64(s, t)
+    };
+    let half = HALF_CIRCLE as u64;
+    if apart == half {
+        return slip == HALVED;
+    }
+    (s < t) == (apart < half)
+}
+
+// The answer to a base b against a revision n: STALE or AHEAD with the distance beside it, UNCLEAR, or 0.
 fn judged(n: u64, b: u64, slip: u64) -> Answer {
-    let d = low_half(std::num::wrapping_sub_u64(n, b)) as u64;
-    if d == 0 {
+    if n == b {
         return answered(0, 0, 0);
     }
-    let older = if slip == PLAIN {
-        b < n
-    } else {
-        d <= 2147483648
-    };
+    let older = less_serial(b, n, slip);
+    if !older && !less_serial(n, b, slip) {
+        return answered(Refusal::number(Refusal::Unclear), 0, 0);
+    }
+    let d = low_half(std::num::wrapping_sub_u64(n, b)) as u64;
     let refusal = if older {
         Refusal::Stale
     } else {

@@ -25,10 +25,15 @@ pub const READ: u64 = 5;
 pub const MOVED: u64 = 6;
 // Counting lost parity too.
 pub const COUNTED: u64 = 7;
-// Testing MANY after STALE or AHEAD.
+// Testing MANY after the base.
 pub const LATE: u64 = 8;
 // Telling the distance of the other direction.
 pub const OPPOSITE: u64 = 9;
+// Calling a base that is exactly half the circle away STALE, as document 01 had it.
+pub const HALVED: u64 = 10;
+
+// Half the circle of revisions.
+pub const HALF_CIRCLE: u32 = 2147483648;
 
 // The number of a refusal or 0, and the numbers beside it.
 pub struct Answer {

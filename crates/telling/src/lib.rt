@@ -59,8 +59,9 @@ fn say_slip(slip: u64) {
         second_ground::READ => say(b"planted slip, lost bytes read"),
         second_ground::MOVED => say(b"planted slip, lost column moved"),
         second_ground::COUNTED => say(b"planted slip, lost parity counted"),
-        second_ground::LATE => say(b"planted slip, MANY after STALE or AHEAD"),
-        _ => say(b"planted slip, distance of the other direction"),
+        second_ground::LATE => say(b"planted slip, MANY after the base"),
+        second_ground::OPPOSITE => say(b"planted slip, distance of the other direction"),
+        _ => say(b"planted slip, half the circle called STALE"),
     }
 }
 

@@ -20,13 +20,17 @@ use Rattle.stripe.specs.Reading.{readOf, withParams, sectionsOf}
 use Rattle.block.specs.Touches.{touches, touch-word, count}
 use Rattle.revision.specs.Revision.{distance, judged, renewed}
 use Rattle.write.specs.Written.{writeOf, write-read, write-sound, write-judged, written, moved, difference}
-use Rattle.revision.specs.declared.Age.the-variants.{Older, Newer}
+use Rattle.revision.specs.declared.Age.the-variants.{Older, Newer, Unclear}
 use Rattle.write.specs.declared.Written.the-variants.{Accepted, Aged}
 
--- "1 to 2^31 is STALE; above is AHEAD", "behind by d, or ahead by 2^32 - d"
-pub half-older : judged 2147483648 0 ≡ Older 2147483648
+-- "STALE now covers d from 1 to 2^31 - 1. The exact half gets a refusal of its own", and above is AHEAD
+pub before-half-older : judged 2147483647 0 ≡ Older 2147483647
 unfolding judged distance
-half-older = refl
+before-half-older = refl
+
+pub half-unclear : judged 2147483648 0 ≡ Unclear
+unfolding judged distance
+half-unclear = refl
 
 pub past-half-newer : judged 2147483649 0 ≡ Newer 2147483647
 unfolding judged distance

@@ -1,7 +1,7 @@
 -- `answers::put_aged` meets its contract.
 -- Assumes nothing.
 use borrow.Author.Needs.{needs}
-use Rattle.answers.proofs.Names.{age-short, aged-line}
+use Rattle.answers.proofs.Names.{aged-line}
 use Rattle.answers.proofs.put_aged.Statement.{statement}
 use Rattle.answers.proofs.put_aged.Tie as tie
 
@@ -9,7 +9,7 @@ number-requires : tie.Need-number-requires
 number-requires c κs = search needs
 
 put-start-requires : tie.Need-put-start-requires
-put-start-requires c κs = (search needs, search age-short)
+put-start-requires c κs = search needs
 
 distance-requires : tie.Need-distance-requires
 distance-requires c κs = search needs

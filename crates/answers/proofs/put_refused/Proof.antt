@@ -1,7 +1,7 @@
 -- `answers::put_refused` meets its contract.
 -- Assumes nothing.
 use borrow.Author.Needs.{needs}
-use Rattle.answers.proofs.Names.{refusal-short, refused-line}
+use Rattle.answers.proofs.Names.{refused-line}
 use Rattle.answers.proofs.put_refused.Statement.{statement}
 use Rattle.answers.proofs.put_refused.Tie as tie
 
@@ -9,7 +9,7 @@ number-requires : tie.Need-number-requires
 number-requires c κs = search needs
 
 put-start-requires : tie.Need-put-start-requires
-put-start-requires c κs = (search needs, search refusal-short)
+put-start-requires c κs = search needs
 
 slice-aggregate-put : tie.Need-slice-aggregate-put
 slice-aggregate-put c = search needs
