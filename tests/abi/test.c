@@ -9,7 +9,9 @@
 #include <string.h>
 
 static unsigned passed, failed;
-static int seen[18];
+/* numbers that were answered: all lie below END */
+enum { END = AIRSAFFRON_UNCLEAR + 1 };
+static int seen[END];
 
 static void expect(int holds, const char *what) {
     if (holds) {
@@ -26,7 +28,7 @@ static void expect_answer(airsaffron_answer x, uint64_t refusal, uint64_t first,
         printf("answer %llu %llu %llu\n", (unsigned long long)x.refusal, (unsigned long long)x.first, (unsigned long long)x.second);
     }
     expect(holds, what);
-    if (x.refusal < 17) {
+    if (x.refusal < END) {
         seen[x.refusal] = 1;
     }
 }
@@ -532,7 +534,7 @@ int main(void) {
     test_write_away();
     test_restore_and_show();
     test_limits();
-    for (n = 0; n < 18; n++) {
+    for (n = 0; n < END; n++) {
         expect(seen[n] == (n != AIRSAFFRON_LONG), "every number but LONG was answered");
     }
     printf("%u passed, %u failed\n", passed, failed);

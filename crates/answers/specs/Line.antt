@@ -1,4 +1,5 @@
--- "Answers are one line, `done ..` or `refused N NAME` (NAME in capitals as in document 01)." Request 2: `refused 10 STALE 3`, three notes behind.
+-- "Answers are one line, `done ..` or `refused N NAME` (NAME in capitals as in document 01)." Request 2: `refused 10 STALE 3`, three notes behind; request
+-- 3: `refused 17 UNCLEAR 0`.
 -- Assumes nothing.
 use Prim.Native.Char.{code}
 use Prim.Native.Nat.{ℕ, _+_, _^_}

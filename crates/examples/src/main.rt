@@ -3,6 +3,9 @@ use telling::say;
 use telling::tell;
 use total::add;
 
+// All numbers of refusal lie below it.
+const REFUSALS_END: usize = 18;
+
 // How many cases a group has.
 fn cases_of(group: usize) -> usize {
     match group {
@@ -77,7 +80,7 @@ fn run(one: &mut [u8], two: &mut [u8], room: &mut [u8]) {
     tell(slips);
     telling::tell_refusals(
         run_groups(limits.refusals | slips.refusals, 10, one, two, room),
-        18,
+        REFUSALS_END,
     );
     self_test(10, one, two, room);
 }

@@ -7,10 +7,10 @@ use mathlib.Core.Logic.{_⊎_, inl, inr}
 use mathlib.Core.Path.{_≡_, refl, sym, ap, _∙_}
 use native.Mathlib.Omega.{arith}
 use lib.Dec.{ltb}
-use borrow.Author.Tests.{ltb-true, ltb-false}
-use Rattle.revision.proofs.Circle.{Lies, level, behind, half, ahead, lies, judge-current, judged-current, older-exactly, newer-exactly, unclear-exactly}
-use Rattle.revision.specs.Revision.{distance, judged, is-current, Behind, Half-apart}
-use Rattle.revision.specs.Serial.{Less-than, Greater-than, Undefined, Follows-RFC-1982, Antisymmetric}
+use borrow.Author.Tests.{eq-eqb, ltb-true, ltb-false}
+use Rattle.revision.proofs.Circle.{Lies, level, behind, half, ahead, lies, judge-current, judged-current, older-exactly, newer-exactly, unclear-exactly, age-told}
+use Rattle.revision.specs.Revision.{distance, judged, age-number, age-distance, is-current, Behind, Half-apart, Distance-told}
+use Rattle.revision.specs.Serial.{Less-than, Greater-than, Undefined, Follows-RFC-1982, Serial-told, Antisymmetric}
 use Rattle.revision.specs.declared.Age.the-variants.{Current, Older, Newer, Unclear}
 
 -- ---- the RFC's inequalities, by renewals
@@ -64,6 +64,16 @@ module _ (n b : ℕ) (hn : n < 2 ^ 32) (hb : b < 2 ^ 32) where
     );
     unclear = (λ e. half-undefined (unclear-exactly n b hn hb .0 e), λ u. undefined-unclear u (lies n b));
   }
+
+  pub serial-told : Serial-told n b (age-number (judged n b))
+  serial-told =
+      let said : Distance-told n b (age-number (judged n b)) (age-distance (judged n b)) = age-told n b hn hb in
+      record {
+        accepted = (λ e. sym (judged-current n b hn hb .0 (eq-eqb (age-number (judged n b)) 0 e)), λ e. ap age-number (follows-rfc-1982 .current .1 e));
+        stale = (λ e. behind-less n b hn hb _ (said .stale e), λ l. ap age-number (follows-rfc-1982 .older .1 l .1));
+        ahead = (λ e. swapped-back b n (behind-less b n hb hn _ (said .ahead e)), λ g. ap age-number (follows-rfc-1982 .newer .1 g .1));
+        unclear = (λ e. half-undefined (said .unclear e), λ u. ap age-number (follows-rfc-1982 .unclear .1 u));
+      }
 
 half-turned : (n b : ℕ) → b < 2 ^ 32 → Half-apart n b → Half-apart b n
 half-turned n b hb h = omega (arith, h)

@@ -4,6 +4,9 @@
 use Prim.Native.Nat.{ℕ, _-_, _^_, _<_}
 use mathlib.Core.Logic.{_≢_, _↔_, _⊎_}
 use mathlib.Core.Path.{_≡_}
+use Rattle.refusal.specs.declared.Refusal.the-variants.{Stale, Ahead}
+use Rattle.refusal.specs.declared.Refusal.the-variants as Refusal
+use Rattle.refusal.specs.Number.{numberOf}
 use Rattle.revision.specs.Revision.{judged}
 use Rattle.revision.specs.declared.Age.{Age}
 use Rattle.revision.specs.declared.Age.the-variants.{Current, Older, Newer, Unclear}
@@ -41,6 +44,13 @@ pub record Follows-RFC-1982 (n b : ℕ) (g : Age) : Type 0 where
   pub older : ((d : ℕ) × (g ≡ Older d)) ↔ Less-than b n
   pub newer : ((d : ℕ) × (g ≡ Newer d)) ↔ Greater-than b n
   pub unclear : (g ≡ Unclear) ↔ Undefined b n
+
+-- the number k of an answer is what the RFC says of a base b and a revision n
+pub record Serial-told (n b k : ℕ) : Type 0 where
+  pub accepted : (k ≡ 0) ↔ (b ≡ n)
+  pub stale : (k ≡ numberOf Stale) ↔ Less-than b n
+  pub ahead : (k ≡ numberOf Ahead) ↔ Greater-than b n
+  pub unclear : (k ≡ numberOf Refusal.Unclear) ↔ Undefined b n
 
 -- seen from the other side the same distance lies the other way, and half the circle stays half
 pub record Antisymmetric (n b : ℕ) : Type 0 where

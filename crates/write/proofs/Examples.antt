@@ -55,3 +55,8 @@ ninth = refl
 pub tenth : writeOf example-image 1 1 6 (0 ∷ []) ≡ record { answer = Aged (Older 1); image = example-image }
 unfolding writeOf write-read write-sound write-judged readOf withParams sectionsOf checkedOf admitted-prime admitted-shape admitted-strip odd-prime below judged distance
 tenth = refl
+
+-- base 2147483655, half the circle from revision 7: UNCLEAR, with distance 0
+pub half-written : writeOf example-image 1 1 2147483655 (0 ∷ []) ≡ record { answer = Aged Unclear; image = example-image }
+unfolding writeOf write-read write-sound write-judged readOf withParams sectionsOf checkedOf admitted-prime admitted-shape admitted-strip odd-prime below judged distance
+half-written = refl

@@ -13,7 +13,7 @@ returns : tie.Need-returns
 returns c = search judge-current
 
 returns-2 : tie.Need-returns-2
-returns-2 c = search judge-unclear
+returns-2 c = judge-unclear _ _ _ (c .before .before .behind .ensures) (omega arith)
 
 returns-3 : tie.Need-returns-3
 returns-3 c = judge-older _ _ _ (search needs) (omega arith) (omega arith)
