@@ -31,7 +31,7 @@ away-difference s q m i t v x = whole-data s q m i t x ⊕ getD v x 0
 unfoldable pub away-written : List ℕ → Params → ℕ → ℕ → ℕ → ℕ → List ℕ → List ℕ
 away-written s q m i t b v = present-written s q m i t b v (away-difference s q m i t v)
 
--- "then STALE or AHEAD"; an accepted write's "count covers present parity strips only"
+-- "then STALE or AHEAD" or UNCLEAR; an accepted write's "count covers present parity strips only"
 unfoldable pub away-judged : List ℕ → Params → ℕ → ℕ → ℕ → ℕ → List ℕ → Age → Left Written
 away-judged s q m i t b v = by-age s (record { answer = Accepted (renewed b) (present-count q m i t); image = away-written s q m i t b v })
 

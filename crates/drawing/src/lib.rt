@@ -208,12 +208,12 @@ pub fn start_of(c: usize, column: usize) -> u64 {
     }
 }
 
-// The base of write w: about as far from the start as the column may be by then; in one of eight exactly half the circle off, in one more up to 4 besides.
+// The base of write w: about as far from the start as the column may be by then; one in eight is exactly half the circle off, one more at most 4 from there.
 fn base_of(q: Shape, c: usize, w: usize, column: usize) -> u32 {
     let near = add(over(w, times(3, add(q.k, 1))), below(c, add(200, w), 2));
     let far = match below(c, add(220, w), 8) {
         0 => HALF_CIRCLE as u64,
-        1 => add(2147483644, below(c, add(340, w), 9)) as u64,
+        1 => less(add(HALF_CIRCLE as usize, below(c, add(340, w), 9)), 4) as u64,
         _ => 0,
     };
     let distance = std::num::wrapping_add_u64(near as u64, far);

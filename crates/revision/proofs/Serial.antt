@@ -4,14 +4,14 @@
 use Prim.Native.Nat.{ℕ, _-_, _<_, _^_}
 use mathlib.Core.Bool.{Bool, true, false}
 use mathlib.Core.Logic.{_⊎_, inl, inr}
-use mathlib.Core.Path.{_≡_, refl, sym, ap, _∙_}
+use mathlib.Core.Path.{_≡_, refl, sym, ap}
 use native.Mathlib.Omega.{arith}
 use lib.Dec.{ltb}
 use borrow.Author.Tests.{eq-eqb, ltb-true, ltb-false}
 use Rattle.revision.proofs.Circle.{Lies, level, behind, half, ahead, lies, judge-current, judged-current, older-exactly, newer-exactly, unclear-exactly, age-told}
 use Rattle.revision.specs.Revision.{distance, judged, age-number, age-distance, is-current, Behind, Half-apart, Distance-told}
 use Rattle.revision.specs.Serial.{Less-than, Greater-than, Undefined, Follows-RFC-1982, Serial-told, Antisymmetric}
-use Rattle.revision.specs.declared.Age.the-variants.{Current, Older, Newer, Unclear}
+use Rattle.revision.specs.declared.Age.the-variants.{Unclear}
 
 -- ---- the RFC's inequalities, by renewals
 
