@@ -63,6 +63,10 @@ lies n b = go (eqb d 0) refl (eqb d (2 ^ 31)) refl (ltb d (2 ^ 31)) refl
     go false e false f false g =
         let o = eqb-false d (2 ^ 31) f in let l = ltb-false d (2 ^ 31) g in let i : 2 ^ 31 < d = omega arith in ahead i (sym (judge-rest n b d refl i))
 
+-- two cases of an age are not one
+apart : {A : Type 0} → _≡_ {A = ℕ} 0 1 → A
+apart z = absurd (omega arith)
+
 -- a distance stands beside STALE and AHEAD alone
 pub none-apart : (g : Age) → age-number g ≢ numberOf Stale → age-number g ≢ numberOf Ahead → age-distance g ≡ 0
 none-apart Current f h = refl
@@ -88,10 +92,10 @@ module _ (n b : ℕ) (hn : n < 2 ^ 32) (hb : b < 2 ^ 32) where
   older-exactly d = (there (lies n b), λ h. sym (judge-older n b d (omega (arith, h .some, h .most, h .renewals)) (h .some) (omega (arith, h .most))))
     where
       there : Lies n b → judged n b ≡ Older d → Behind n b d
-      there (level z j) e = absurd (let z : _≡_ {A = ℕ} 0 1 = cc in omega arith)
+      there (level z j) e = apart (cc)
       there (behind l m j) e = let z : distance n b ≡ d = cc in record { some = omega (arith, z); most = omega (arith, z); renewals = omega (arith, z) }
-      there (half z j) e = absurd (let z : _≡_ {A = ℕ} 0 1 = cc in omega arith)
-      there (ahead l j) e = absurd (let z : _≡_ {A = ℕ} 0 1 = cc in omega arith)
+      there (half z j) e = apart (cc)
+      there (ahead l j) e = apart (cc)
 
   -- "or ahead by 2^32 - d": from 1 to 2^31 - 1, and so many renewals lead from the revision to the base
   pub newer-exactly : (d : ℕ) → (judged n b ≡ Newer d) ↔ Behind b n d
@@ -99,9 +103,9 @@ module _ (n b : ℕ) (hn : n < 2 ^ 32) (hb : b < 2 ^ 32) where
   newer-exactly d = (there (lies n b), here)
     where
       there : Lies n b → judged n b ≡ Newer d → Behind b n d
-      there (level z j) e = absurd (let z : _≡_ {A = ℕ} 0 1 = cc in omega arith)
-      there (behind l m j) e = absurd (let z : _≡_ {A = ℕ} 0 1 = cc in omega arith)
-      there (half z j) e = absurd (let z : _≡_ {A = ℕ} 0 1 = cc in omega arith)
+      there (level z j) e = apart (cc)
+      there (behind l m j) e = apart (cc)
+      there (half z j) e = apart (cc)
       there (ahead l j) e = let z : 2 ^ 32 - distance n b ≡ d = cc in record { some = omega (arith, z); most = omega (arith, z); renewals = omega (arith, z) }
 
       here : Behind b n d → judged n b ≡ Newer d
@@ -114,10 +118,10 @@ module _ (n b : ℕ) (hn : n < 2 ^ 32) (hb : b < 2 ^ 32) where
   unclear-exactly = (there (lies n b), λ h. sym (judge-unclear n b (distance n b) refl (omega (arith, h))))
     where
       there : Lies n b → judged n b ≡ Unclear → Half-apart n b
-      there (level z j) e = absurd (let z : _≡_ {A = ℕ} 0 1 = cc in omega arith)
-      there (behind l m j) e = absurd (let z : _≡_ {A = ℕ} 0 1 = cc in omega arith)
+      there (level z j) e = apart (cc)
+      there (behind l m j) e = apart (cc)
       there (half z j) e = omega (arith, z)
-      there (ahead l j) e = absurd (let z : _≡_ {A = ℕ} 0 1 = cc in omega arith)
+      there (ahead l j) e = apart (cc)
 
   -- the numbers of an age say how far apart its revisions are
   pub age-told : Distance-told n b (age-number (judged n b)) (age-distance (judged n b))
