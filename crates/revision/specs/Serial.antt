@@ -1,5 +1,6 @@
 -- "The comparison follows RFC 1982 serial numbers of 32 bits", and request 3: "RFC 1982 leaves undefined which of two numbers is newer when they lie
--- exactly 2^31 apart." The comparison in the RFC's own words (its section 3.2), and what it is to follow it.
+-- exactly 2^31 apart." The comparison of the RFC's section 3.2, and what it is to follow it. The RFC was not at hand: its sentences stand here from memory,
+-- and the inequalities were held against another implementation (docs/DECISIONS.md).
 -- Assumes nothing.
 use Prim.Native.Nat.{ℕ, _-_, _^_, _<_}
 use mathlib.Core.Logic.{_≢_, _↔_, _⊎_}
