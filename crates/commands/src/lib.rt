@@ -13,9 +13,6 @@ ghost use mathlib.Core.Path.{_≡_};
 ghost use Prim.Native.Nat.{_≤_};
 ghost use lib.ListN.{length};
 
-// The length of the largest strip.
-const STRIP: usize = 512;
-
 // An image that a command changed in its buffer: the answer, and its length.
 struct Changed {
     answer: Answer,
@@ -61,7 +58,7 @@ fn report(image: &[u8]) -> Answer {
 
 // show: the bytes of a strip, restored first if its column is lost.
 fn show(image: &[u8], lost: u64, column: usize, row: usize) -> Answer {
-    let mut scratch = [0u8; STRIP];
+    let mut scratch = [0u8; Params::LARGEST_STRIP];
     let outcome = rebuild::restore(image, lost, column, row, &mut scratch);
     if let Outcome::Refused(e) = outcome {
         return Answer::Refused(e);
@@ -184,7 +181,7 @@ fn write_strip(
 ) -> Changed
     ensures { λ x. ⌜ x .length ≤ length (now (image .exit)) ⌝ }
 {
-    let mut strip = [0u8; STRIP + 1];
+    let mut strip = [0u8; Params::LARGEST_STRIP + 1];
     let Taken::Bytes(m) = files::take(from, &mut strip) else {
         return nothing();
     };

@@ -10,6 +10,13 @@ ghost use Rattle.laws.specs.Xor.{_⊕_};
 ghost use Rattle.engine.specs.Mask.{takesOf, maskOf};
 ghost use Rattle.engine.specs.Strips.{added, copied, onto, gathered, taken, Strip, Rows, Lanes, Laned, Scattered, Columns};
 
+// How many lanes are taken at once, where there are so many.
+const WIDE: usize = 128;
+
+const MIDDLE: usize = 32;
+
+const NARROW: usize = 16;
+
 // Bit i of w.
 fn coefficient(w: u64, i: usize) -> u64
     requires { ⌜ i < 64 ⌝ }
@@ -120,7 +127,7 @@ fn add_lanes(s: &mut [u8], at: usize, rows: usize, mask: u64, strip: &[u8], l: u
 {
     let b = strip.len();
     let from = at + l;
-    let mut run = [0u8; 128];
+    let mut run = [0u8; WIDE];
     copy(&mut run, 0, strip, l, w);
     let mut left = cut(mask, rows);
     while left > 0 {
@@ -135,27 +142,27 @@ fn add_block(s: &mut [u8], at: usize, rows: usize, mask: u64, strip: &[u8], l: u
     requires { ⌜ Lanes (now s) (now strip) at rows l w ⌝ }
     ensures { λ _. ⌜ Laned (now (s .entry)) (now (s .exit)) (now (strip .entry)) at rows mask l w ⌝ }
 {
-    if w == 128 {
-        add_lanes(s, at, rows, mask, strip, l, 128)
-    } else if w == 32 {
-        add_lanes(s, at, rows, mask, strip, l, 32)
-    } else if w == 16 {
-        add_lanes(s, at, rows, mask, strip, l, 16)
+    if w == WIDE {
+        add_lanes(s, at, rows, mask, strip, l, WIDE)
+    } else if w == MIDDLE {
+        add_lanes(s, at, rows, mask, strip, l, MIDDLE)
+    } else if w == NARROW {
+        add_lanes(s, at, rows, mask, strip, l, NARROW)
     } else {
         add_lanes(s, at, rows, mask, strip, l, w)
     }
 }
 
-// How many of n lanes to take at once: 128, 32 or 16 where there are so many.
+// How many of n lanes to take at once: the widest block that there are lanes for, or all.
 fn width(n: usize) -> usize
     ensures { λ r. ⌜ (r ≤ n) × (r ≤ 128) × (0 < n → 0 < r) ⌝ }
 {
-    if n >= 128 {
-        128
-    } else if n >= 32 {
-        32
-    } else if n >= 16 {
-        16
+    if n >= WIDE {
+        WIDE
+    } else if n >= MIDDLE {
+        MIDDLE
+    } else if n >= NARROW {
+        NARROW
     } else {
         n
     }
@@ -209,18 +216,18 @@ pub fn clear(s: &mut [u8], from: usize, n: usize)
     }
 }
 
-// Puts the bytes of src in their place; an array lets each block of 128 stay in registers.
+// Puts the bytes of src in their place; an array lets each wide block stay in registers.
 pub fn copy_in(s: &mut [u8], at: usize, src: &[u8])
     requires { ⌜ at + length (now src) ≤ length (now s) ⌝ }
     ensures { λ _. ⌜ now (s .exit) ≡ put (now (s .entry)) at (now (src .entry)) ⌝ }
 {
     let n = src.len();
     let mut i: usize = 0;
-    while n - i >= 128 {
-        let mut block = [0u8; 128];
-        copy(&mut block, 0, src, i, 128);
-        copy(s, at + i, &block, 0, 128);
-        i += 128;
+    while n - i >= WIDE {
+        let mut block = [0u8; WIDE];
+        copy(&mut block, 0, src, i, WIDE);
+        copy(s, at + i, &block, 0, WIDE);
+        i += WIDE;
     }
     copy(s, at + i, src, i, n - i)
 }

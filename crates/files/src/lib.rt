@@ -1,11 +1,9 @@
 // The files of the depot: taken into a buffer, written, looked at again and put in the place of others; and the program's arguments.
+use stripe::Params;
 ghost use mathlib.Core.Path.{_≡_};
 ghost use Prim.Native.Nat.{_≤_};
 ghost use lib.ListN.{length};
 ghost use Rattle.files.specs.Taken.{Within};
-
-// The length of the largest image.
-const LARGEST: usize = 1874176;
 
 // How many bytes were taken into a buffer; nothing where that failed.
 pub enum Taken {
@@ -199,10 +197,10 @@ pub fn is_free(path: &[u8]) -> bool {
 }
 
 // Room for the largest image, and a byte more to tell what is longer.
-pub fn blank() -> [u8; LARGEST + 1]
+pub fn blank() -> [u8; Params::LARGEST_IMAGE + 1]
     ensures { λ x. ⌜ length x ≡ 1874177 ⌝ }
 {
-    [0u8; LARGEST + 1]
+    [0u8; Params::LARGEST_IMAGE + 1]
 }
 
 // Puts the program's arguments into a line, with a 0 between two; nothing where they are too long.

@@ -17,6 +17,13 @@ ghost use Rattle.parity.specs.Make.{sixteen, made};
 ghost use Rattle.parity.specs.Answer.{make-sound, makeOf, refillOf, wrong-parities, checkOf};
 ghost use Rattle.parity.specs.Inner.{wrong-bit, Column-asked, Starts, Column-filled, Written, three, Room, Begun, opening, head};
 
+// How many lanes a block has: as many as a walk takes, or less where the strips are not so wide.
+const WIDE: usize = walk::LANES;
+
+const MIDDLE: usize = 32;
+
+const NARROW: usize = 16;
+
 // The word of wrong parities, or the refusal.
 pub enum Checkup {
     Wrong(u64),
@@ -46,51 +53,51 @@ fn refill_column(image: &mut [u8], q: Params, j: usize, w: usize, acc: &mut [u8]
     }
 }
 
-// Puts every parity in its place, 128 lanes at a time.
+// Puts every parity in its place, a wide block at a time.
 fn refill_wide(image: &mut [u8], q: Params)
     requires { ⌜ Image (now image) q × (128 ≤ q .b) ⌝ }
     ensures { λ _. ⌜ now (image .exit) ≡ refilled (now (image .entry)) q ⌝ }
 {
-    let mut acc = [0u8; 7808];
+    let mut acc = [0u8; Params::LARGEST_PRIME * WIDE];
     let mut j: usize = 0;
     while j < q.r {
-        refill_column(image, q, j, 128, &mut acc);
+        refill_column(image, q, j, WIDE, &mut acc);
         j += 1;
     }
 }
 
-// The same, 32 lanes at a time.
+// The same, a middle block at a time.
 fn refill_middle(image: &mut [u8], q: Params)
     requires { ⌜ Image (now image) q × (32 ≤ q .b) ⌝ }
     ensures { λ _. ⌜ now (image .exit) ≡ refilled (now (image .entry)) q ⌝ }
 {
-    let mut acc = [0u8; 1952];
+    let mut acc = [0u8; Params::LARGEST_PRIME * MIDDLE];
     let mut j: usize = 0;
     while j < q.r {
-        refill_column(image, q, j, 32, &mut acc);
+        refill_column(image, q, j, MIDDLE, &mut acc);
         j += 1;
     }
 }
 
-// The same, 16 lanes at a time.
+// The same, a narrow block at a time.
 fn refill_narrow(image: &mut [u8], q: Params)
     requires { ⌜ Image (now image) q × (16 ≤ q .b) ⌝ }
     ensures { λ _. ⌜ now (image .exit) ≡ refilled (now (image .entry)) q ⌝ }
 {
-    let mut acc = [0u8; 976];
+    let mut acc = [0u8; Params::LARGEST_PRIME * NARROW];
     let mut j: usize = 0;
     while j < q.r {
-        refill_column(image, q, j, 16, &mut acc);
+        refill_column(image, q, j, NARROW, &mut acc);
         j += 1;
     }
 }
 
-// The same, all lanes of a strip of less than 16 bytes at once.
+// The same, all lanes of a strip that is no wider than a narrow block at once.
 fn refill_thin(image: &mut [u8], q: Params)
     requires { ⌜ Image (now image) q × (q .b ≤ 16) ⌝ }
     ensures { λ _. ⌜ now (image .exit) ≡ refilled (now (image .entry)) q ⌝ }
 {
-    let mut acc = [0u8; 976];
+    let mut acc = [0u8; Params::LARGEST_PRIME * NARROW];
     let mut j: usize = 0;
     while j < q.r {
         block::refill_block(image, q, j, 0, q.b, &mut acc);
@@ -103,15 +110,15 @@ fn refill_all(image: &mut [u8], q: Params)
     requires { ⌜ Image (now image) q ⌝ }
     ensures { λ _. ⌜ now (image .exit) ≡ refilled (now (image .entry)) q ⌝ }
 {
-    if q.b >= 128 {
+    if q.b >= WIDE {
         refill_wide(image, q);
         return;
     }
-    if q.b >= 32 {
+    if q.b >= MIDDLE {
         refill_middle(image, q);
         return;
     }
-    if q.b >= 16 {
+    if q.b >= NARROW {
         refill_narrow(image, q);
         return;
     }
@@ -142,57 +149,57 @@ fn check_column(image: &[u8], q: Params, j: usize, w: usize, acc: &mut [u8]) -> 
     flag(bad)
 }
 
-// The word whose bit j is set where parity j is wrong, found 128 lanes at a time.
+// The word whose bit j is set where parity j is wrong, found a wide block at a time.
 fn check_wide(image: &[u8], q: Params) -> u64
     requires { ⌜ Image (now image) q × (128 ≤ q .b) ⌝ }
     ensures { λ x. ⌜ x ≡ wrong-parities (now (image .entry)) q ⌝ }
 {
-    let mut acc = [0u8; 7808];
+    let mut acc = [0u8; Params::LARGEST_PRIME * WIDE];
     let mut word = 0;
     let mut j: usize = 0;
     while j < q.r {
-        word += check_column(image, q, j, 128, &mut acc) << j;
+        word += check_column(image, q, j, WIDE, &mut acc) << j;
         j += 1;
     }
     word
 }
 
-// The same, 32 lanes at a time.
+// The same, a middle block at a time.
 fn check_middle(image: &[u8], q: Params) -> u64
     requires { ⌜ Image (now image) q × (32 ≤ q .b) ⌝ }
     ensures { λ x. ⌜ x ≡ wrong-parities (now (image .entry)) q ⌝ }
 {
-    let mut acc = [0u8; 1952];
+    let mut acc = [0u8; Params::LARGEST_PRIME * MIDDLE];
     let mut word = 0;
     let mut j: usize = 0;
     while j < q.r {
-        word += check_column(image, q, j, 32, &mut acc) << j;
+        word += check_column(image, q, j, MIDDLE, &mut acc) << j;
         j += 1;
     }
     word
 }
 
-// The same, 16 lanes at a time.
+// The same, a narrow block at a time.
 fn check_narrow(image: &[u8], q: Params) -> u64
     requires { ⌜ Image (now image) q × (16 ≤ q .b) ⌝ }
     ensures { λ x. ⌜ x ≡ wrong-parities (now (image .entry)) q ⌝ }
 {
-    let mut acc = [0u8; 976];
+    let mut acc = [0u8; Params::LARGEST_PRIME * NARROW];
     let mut word = 0;
     let mut j: usize = 0;
     while j < q.r {
-        word += check_column(image, q, j, 16, &mut acc) << j;
+        word += check_column(image, q, j, NARROW, &mut acc) << j;
         j += 1;
     }
     word
 }
 
-// The same, all lanes of a strip of less than 16 bytes at once.
+// The same, all lanes of a strip that is no wider than a narrow block at once.
 fn check_thin(image: &[u8], q: Params) -> u64
     requires { ⌜ Image (now image) q × (q .b ≤ 16) ⌝ }
     ensures { λ x. ⌜ x ≡ wrong-parities (now (image .entry)) q ⌝ }
 {
-    let mut acc = [0u8; 976];
+    let mut acc = [0u8; Params::LARGEST_PRIME * NARROW];
     let mut word = 0;
     let mut j: usize = 0;
     while j < q.r {
@@ -207,13 +214,13 @@ fn wrong(image: &[u8], q: Params) -> u64
     requires { ⌜ Image (now image) q ⌝ }
     ensures { λ x. ⌜ x ≡ wrong-parities (now (image .entry)) q ⌝ }
 {
-    if q.b >= 128 {
+    if q.b >= WIDE {
         return check_wide(image, q);
     }
-    if q.b >= 32 {
+    if q.b >= MIDDLE {
         return check_middle(image, q);
     }
-    if q.b >= 16 {
+    if q.b >= NARROW {
         return check_narrow(image, q);
     }
     check_thin(image, q)

@@ -108,10 +108,10 @@ pub fn ask(image: &[u8], lost: u64, column: usize, row: usize, room: usize) -> R
 }
 
 // Room for the exponents of a stripe's data columns, or of its parity columns.
-pub fn no_exponents() -> [usize; 60]
+pub fn no_exponents() -> [usize; Params::MOST_COLUMNS]
     ensures { λ x. ⌜ length x ≡ 60 ⌝ }
 {
-    [0usize; 60]
+    [0usize; Params::MOST_COLUMNS]
 }
 
 // 1 where bit i of the pattern is `want`, else 0.
@@ -123,7 +123,7 @@ fn wanted(pattern: u64, i: usize, want: u64) -> usize
 }
 
 // The numbers base + i, in rising order, of the i below n whose bit in the pattern is `want`.
-fn collect(pattern: u64, n: usize, base: usize, want: u64) -> [usize; 60]
+fn collect(pattern: u64, n: usize, base: usize, want: u64) -> [usize; Params::MOST_COLUMNS]
     requires { ⌜ (n ≤ 60) × (base ≤ 60) ⌝ }
     ensures { λ x. ⌜ Begins (named pattern want base n) x ⌝ }
 {
@@ -139,7 +139,7 @@ fn collect(pattern: u64, n: usize, base: usize, want: u64) -> [usize; 60]
 }
 
 // The exponents of the lost data columns.
-pub fn lost_data(q: Params, lost: u64) -> [usize; 60]
+pub fn lost_data(q: Params, lost: u64) -> [usize; Params::MOST_COLUMNS]
     requires { ⌜ Admitted q ⌝ }
     ensures { λ x. ⌜ Begins (lost-exponents q lost) x ⌝ }
 {
@@ -147,7 +147,7 @@ pub fn lost_data(q: Params, lost: u64) -> [usize; 60]
 }
 
 // The exponents of the present data columns.
-pub fn present_data(q: Params, lost: u64) -> [usize; 60]
+pub fn present_data(q: Params, lost: u64) -> [usize; Params::MOST_COLUMNS]
     requires { ⌜ Admitted q ⌝ }
     ensures { λ x. ⌜ Begins (present-exponents q lost) x ⌝ }
 {
@@ -155,7 +155,7 @@ pub fn present_data(q: Params, lost: u64) -> [usize; 60]
 }
 
 // The consulted parity columns: the lowest-numbered present ones, as many as data columns are lost.
-pub fn consulted(q: Params, lost: u64) -> [usize; 60]
+pub fn consulted(q: Params, lost: u64) -> [usize; Params::MOST_COLUMNS]
     requires { ⌜ Admitted q ⌝ }
     ensures { λ x. ⌜ Begins (consulted q lost) x ⌝ }
 {

@@ -1,4 +1,5 @@
 // The quotient that walks found: the sum of all rows added to each, put in its place or compared with what stands there.
+use walk::LANES;
 ghost use mathlib.Core.Path.{_≡_};
 ghost use Prim.Native.Nat.{_+_, _-_, _≤_};
 ghost use lib.ListN.{length, getD};
@@ -7,7 +8,7 @@ ghost use Rattle.laws.specs.Patch.{Patched};
 ghost use Rattle.quotient.specs.Lanes.{finished, with-sum, Totalled, Total-asked, Row-put, Stand, Laid, Finish-asked, Row-stands, Shows};
 
 // Adds w bytes of acc to the bytes of sum.
-fn add(sum: &mut [u8; 128], acc: &[u8], row: usize, w: usize)
+fn add(sum: &mut [u8; LANES], acc: &[u8], row: usize, w: usize)
     requires { ⌜ (row + w ≤ length (now acc)) × (w ≤ 128) × (length (now sum) ≡ 128) ⌝ }
     ensures { λ _. ⌜ Patched (now (sum .entry)) (now (sum .exit)) 0 w (λ x. getD (now (sum .entry)) x 0 ⊕ getD (now (acc .entry)) (row + x) 0) ⌝ }
 {
@@ -19,7 +20,7 @@ fn add(sum: &mut [u8; 128], acc: &[u8], row: usize, w: usize)
 }
 
 // Adds the p rows of acc to sum.
-fn total(sum: &mut [u8; 128], acc: &[u8], p: usize, w: usize)
+fn total(sum: &mut [u8; LANES], acc: &[u8], p: usize, w: usize)
     requires { ⌜ Total-asked (now acc) (now sum) p w ⌝ }
     ensures { λ _. ⌜ Totalled (now (acc .entry)) (now (sum .entry)) (now (sum .exit)) p w ⌝ }
 {
@@ -31,7 +32,7 @@ fn total(sum: &mut [u8; 128], acc: &[u8], p: usize, w: usize)
 }
 
 // Puts w bytes of acc, with sum added, in s.
-fn put(s: &mut [u8], at: usize, acc: &[u8], row: usize, sum: &[u8; 128], w: usize)
+fn put(s: &mut [u8], at: usize, acc: &[u8], row: usize, sum: &[u8; LANES], w: usize)
     requires { ⌜ (at + w ≤ length (now s)) × (row + w ≤ length (now acc)) × (w ≤ 128) × (length (now sum) ≡ 128) ⌝ }
     ensures { λ _. ⌜ Row-put (now (s .entry)) (now (s .exit)) (now (acc .entry)) (now (sum .entry)) at row w ⌝ }
 {
@@ -51,7 +52,7 @@ fn puts(
     j: usize,
     w: usize,
     acc: &[u8],
-    sum: &[u8; 128],
+    sum: &[u8; LANES],
 )
     requires { ⌜ Finish-asked (now s) (now acc) to p b j w × (length (now sum) ≡ 128) ⌝ }
     ensures { λ _. ⌜ Laid (now (s .entry)) (now (s .exit)) to (p - 1) b w (with-sum (now (acc .entry)) (now (sum .entry)) p w j) ⌝ }
@@ -70,13 +71,13 @@ pub fn finish(s: &mut [u8], to: usize, p: usize, b: usize, j: usize, w: usize, a
     requires { ⌜ Finish-asked (now s) (now acc) to p b j w ⌝ }
     ensures { λ _. ⌜ Laid (now (s .entry)) (now (s .exit)) to (p - 1) b w (finished (now (acc .entry)) p w j) ⌝ }
 {
-    let mut sum = [0u8; 128];
+    let mut sum = [0u8; LANES];
     total(&mut sum, acc, p, w);
     puts(s, to, p, b, j, w, acc, &sum);
 }
 
 // 0 where bad is 0 and w bytes of s are those of acc with sum added.
-fn differ(bad: u8, s: &[u8], at: usize, acc: &[u8], row: usize, sum: &[u8; 128], w: usize) -> u8
+fn differ(bad: u8, s: &[u8], at: usize, acc: &[u8], row: usize, sum: &[u8; LANES], w: usize) -> u8
     requires { ⌜ (at + w ≤ length (now s)) × (row + w ≤ length (now acc)) × (w ≤ 128) × (length (now sum) ≡ 128) ⌝ }
     ensures { λ r. ⌜ Shows bad r (Row-stands (now (s .entry)) (now (acc .entry)) (now (sum .entry)) at row w) ⌝ }
 {
@@ -99,7 +100,7 @@ fn differs(
     j: usize,
     w: usize,
     acc: &[u8],
-    sum: &[u8; 128],
+    sum: &[u8; LANES],
 ) -> u8
     requires { ⌜ Finish-asked (now s) (now acc) to p b j w × (length (now sum) ≡ 128) ⌝ }
     ensures { λ r. ⌜ Shows bad r (Stand (now (s .entry)) to (p - 1) b w (with-sum (now (acc .entry)) (now (sum .entry)) p w j)) ⌝ }
@@ -129,7 +130,7 @@ pub fn compare(
     requires { ⌜ Finish-asked (now s) (now acc) to p b j w ⌝ }
     ensures { λ r. ⌜ Shows bad r (Stand (now (s .entry)) to (p - 1) b w (finished (now (acc .entry)) p w j)) ⌝ }
 {
-    let mut sum = [0u8; 128];
+    let mut sum = [0u8; LANES];
     total(&mut sum, acc, p, w);
     differs(bad, s, to, p, b, j, w, acc, &sum)
 }

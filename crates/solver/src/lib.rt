@@ -1,4 +1,5 @@
 // The Cauchy system on words, solved in place; the recovery matrix; the words of a lost column.
+use stripe::Params;
 ghost use mathlib.Core.Path.{_≡_};
 ghost use Prim.Native.Nat.{_<_, _≤_, _^_};
 ghost use lib.ListN.{length, replicate};
@@ -7,6 +8,9 @@ ghost use Rattle.algebra.specs.Recovery.{clearedOf, settledOf, lessOf, backOf, 
 ghost use Rattle.ring.specs.Ring.{Divisible};
 ghost use Rattle.solver.specs.System.{Row, System, riseOf, Consulted};
 ghost use Rattle.solver.specs.Matrix.{Solvable, Square, Column, Placed, Recovery};
+
+// The recovery matrix: a row of words for each lost data column.
+pub type Matrix = [[u64; Params::MOST_LOST]; Params::MOST_LOST];
 
 // ((x + y1)·w + (x1 + y1)·w1) / (x1 + x)
 fn cleared(x1: usize, y1: usize, w1: u64, x: usize, w: u64, p: usize) -> u64
@@ -114,17 +118,17 @@ pub fn solve(xs: &[usize], ys: &[usize], v: &mut [u64], p: usize)
 }
 
 // the unit vector v: e = x + x^2 + .. + x^(p-1) in place v
-fn unit(v: usize, p: usize) -> [u64; 30]
+fn unit(v: usize, p: usize) -> [u64; Params::MOST_LOST]
     requires { ⌜ Modulus p × (v < 30) ⌝ }
     ensures { λ r. ⌜ r ≡ unitOf p 30 v ⌝ }
 {
-    let mut col = [0u64; 30];
+    let mut col = [0u64; Params::MOST_LOST];
     col[v] = (1 << p) - 2;
     col
 }
 
 // column v of the matrix: the solution for the unit vector v
-fn column(xs: &[usize], ys: &[usize], v: usize, p: usize) -> [u64; 30]
+fn column(xs: &[usize], ys: &[usize], v: usize, p: usize) -> [u64; Params::MOST_LOST]
     requires { ⌜ Modulus p × Solvable p (now xs) (now ys) × (v < length (now xs)) ⌝ }
     ensures { λ r. ⌜ Column p (now (xs .entry)) (now (ys .entry)) v r ⌝ }
 {
@@ -135,27 +139,27 @@ fn column(xs: &[usize], ys: &[usize], v: usize, p: usize) -> [u64; 30]
 }
 
 // puts a column in place v
-fn place(m: &mut [[u64; 30]; 30], v: usize, col: &[u64; 30])
+fn place(m: &mut Matrix, v: usize, col: &[u64; Params::MOST_LOST])
     requires { ⌜ Square (now m) × (v < 30) ⌝ }
     ensures { λ _. ⌜ Placed (now (m .entry)) (now (m .exit)) v 30 (now (col .entry)) ⌝ }
 {
     let mut u: usize = 0;
-    while u < 30 {
+    while u < Params::MOST_LOST {
         m[u][v] = col[u];
         u += 1;
     }
 }
 
-// 30 rows of 30 zeros
-fn blank() -> [[u64; 30]; 30]
+// the matrix all 0
+fn blank() -> Matrix
     ensures { λ r. ⌜ r ≡ replicate 30 (replicate 30 0) ⌝ }
 {
-    let zero = [0u64; 30];
-    [zero; 30]
+    let zero = [0u64; Params::MOST_LOST];
+    [zero; Params::MOST_LOST]
 }
 
 // the recovery matrix of the consulted parity columns xs and the lost data columns ys
-pub fn recovery(xs: &[usize], ys: &[usize], p: usize) -> [[u64; 30]; 30]
+pub fn recovery(xs: &[usize], ys: &[usize], p: usize) -> Matrix
     requires { ⌜ Modulus p × Solvable p (now xs) (now ys) ⌝ }
     ensures { λ r. ⌜ Recovery p (now (xs .entry)) (now (ys .entry)) (length (now (xs .entry))) r ⌝ }
 {

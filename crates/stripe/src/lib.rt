@@ -41,9 +41,22 @@ impl Reading {
 }
 
 impl Params {
+    // The largest prime that is admitted.
     pub const LARGEST_PRIME: usize = 61;
 
+    // The length of the largest strip.
     pub const LARGEST_STRIP: usize = 512;
+
+    // The most data columns, the most parity columns, and the most strips of a column.
+    pub const MOST_COLUMNS: usize = Params::LARGEST_PRIME - 1;
+
+    // The most data columns that may be lost: each asks for a parity column of its own.
+    pub const MOST_LOST: usize = Params::LARGEST_PRIME / 2;
+
+    // The length of the largest image.
+    pub const LARGEST_IMAGE: usize = 16
+        + 4 * Params::MOST_COLUMNS
+        + Params::LARGEST_PRIME * Params::MOST_COLUMNS * Params::LARGEST_STRIP;
 
     // A strip of the largest length to work in, all 0.
     pub fn blank_strip() -> [u8; Params::LARGEST_STRIP]

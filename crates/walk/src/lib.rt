@@ -5,6 +5,9 @@ ghost use lib.ListN.{length};
 ghost use Rattle.laws.specs.Patch.{Patched};
 ghost use Rattle.walk.specs.Lanes.{Step-asked, Stepped, Stepped-first, Walk-asked, Cleared, Walked, Sums, Columns-asked};
 
+// The most lanes of a walk, whose running bytes stay in registers.
+pub const LANES: usize = 128;
+
 // The place d below f, of p places in a circle.
 pub fn next(f: usize, d: usize, p: usize) -> usize
     requires { ⌜ (f < p) × (1 ≤ d) × (d < p) × (p ≤ 61) ⌝ }
@@ -17,7 +20,7 @@ pub fn next(f: usize, d: usize, p: usize) -> usize
 }
 
 // Adds w bytes of s to the running bytes, and these to w bytes of acc.
-fn step(s: &[u8], at: usize, run: &mut [u8; 128], acc: &mut [u8], to: usize, w: usize)
+fn step(s: &[u8], at: usize, run: &mut [u8; LANES], acc: &mut [u8], to: usize, w: usize)
     requires { ⌜ Step-asked (now s) (now run) (now acc) at to w ⌝ }
     ensures { λ _. ⌜ Stepped (now (s .entry)) (now (run .entry)) (now (run .exit)) (now (acc .entry)) (now (acc .exit)) at to w ⌝ }
 {
@@ -31,7 +34,7 @@ fn step(s: &[u8], at: usize, run: &mut [u8; 128], acc: &mut [u8], to: usize, w: 
 }
 
 // The same, with the running bytes put in acc and not added.
-fn step_first(s: &[u8], at: usize, run: &mut [u8; 128], acc: &mut [u8], to: usize, w: usize)
+fn step_first(s: &[u8], at: usize, run: &mut [u8; LANES], acc: &mut [u8], to: usize, w: usize)
     requires { ⌜ Step-asked (now s) (now run) (now acc) at to w ⌝ }
     ensures { λ _. ⌜ Stepped-first (now (s .entry)) (now (run .entry)) (now (run .exit)) (now (acc .entry)) (now (acc .exit)) at to w ⌝ }
 {
@@ -61,7 +64,7 @@ fn walk(s: &[u8], base: usize, p: usize, b: usize, d: usize, w: usize, acc: &mut
     requires { ⌜ Walk-asked (now s) (now acc) base p b d w ⌝ }
     ensures { λ _. ⌜ Walked (now (s .entry)) (now (acc .entry)) (now (acc .exit)) base p b d w ⌝ }
 {
-    let mut run = [0u8; 128];
+    let mut run = [0u8; LANES];
     let mut f = p - 1 - d;
     let mut m: usize = 1;
     while m < p {
@@ -77,7 +80,7 @@ fn walk_cleared(s: &[u8], base: usize, p: usize, b: usize, d: usize, w: usize, a
     requires { ⌜ Cleared (now s) (now acc) base p b d w ⌝ }
     ensures { λ _. ⌜ Sums (now (s .entry)) (now (acc .exit)) base p b d w 1 ⌝ }
 {
-    let mut run = [0u8; 128];
+    let mut run = [0u8; LANES];
     let mut f = p - 1 - d;
     let mut m: usize = 1;
     while m < p {
