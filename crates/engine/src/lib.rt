@@ -34,7 +34,7 @@ fn takes(w: u64, q: usize, t: usize, p: usize) -> u64
 }
 
 // The rows of a column that take part in row q of w · column.
-pub fn mask(w: u64, q: usize, p: usize) -> u64
+fn mask(w: u64, q: usize, p: usize) -> u64
     requires { ⌜ (q < p) × (p ≤ 61) ⌝ }
     ensures { λ r. ⌜ r ≡ maskOf p w q ⌝ }
 {
@@ -71,7 +71,7 @@ fn add_where(s: &mut [u8], to: usize, src: &[u8], from: usize, n: usize, on: u64
 }
 
 // XORs the rows that the mask names, of the rows of src at `at`, into out.
-pub fn gather(src: &[u8], at: usize, rows: usize, mask: u64, out: &mut [u8])
+fn gather(src: &[u8], at: usize, rows: usize, mask: u64, out: &mut [u8])
     requires { ⌜ Rows (now src) (now out) at rows ⌝ }
     ensures { λ _. ⌜ Patched (now (out .entry)) (now (out .exit)) 0 (length (now (out .entry))) (onto (now (out .entry)) (gathered (now (src .entry)) at (length (now (out .entry))) mask rows)) ⌝ }
 {

@@ -2,7 +2,7 @@
 use stripe::Params;
 ghost use mathlib.Core.Path.{_≡_};
 ghost use Prim.Native.Nat.{_≤_};
-ghost use lib.ListN.{length};
+ghost use lib.ListN.{length, replicate};
 ghost use Rattle.files.specs.Taken.{Within};
 
 // How many bytes were taken into a buffer; nothing where that failed.
@@ -198,7 +198,7 @@ pub fn is_free(path: &[u8]) -> bool {
 
 // Room for the largest image, and a byte more to tell what is longer.
 pub fn blank() -> [u8; Params::LARGEST_IMAGE + 1]
-    ensures { λ x. ⌜ length x ≡ 1874177 ⌝ }
+    ensures { λ x. ⌜ (x ≡ replicate 1874177 0) × (length x ≡ 1874177) ⌝ }
 {
     [0u8; Params::LARGEST_IMAGE + 1]
 }

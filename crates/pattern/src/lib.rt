@@ -6,7 +6,7 @@ ghost use mathlib.Core.Path.{_≡_};
 ghost use Prim.Native.Nat.{_+_, _<_, _≤_};
 ghost use mathlib.Core.Bool.{true, _&&_};
 ghost use lib.Dec.{ltb, eqb};
-ghost use lib.ListN.{length};
+ghost use lib.ListN.{length, replicate};
 ghost use Rattle.laws.specs.Choose.{choose};
 ghost use Rattle.laws.specs.Bit.{bit, weight};
 ghost use Rattle.stripe.specs.Params.{Admitted};
@@ -107,9 +107,9 @@ pub fn ask(image: &[u8], lost: u64, column: usize, row: usize, room: usize) -> R
     ask_within(q, lost, column, row, room)
 }
 
-// Room for the exponents of a stripe's data columns, or of its parity columns.
+// Room for the exponents of a stripe's data columns, or of its parity columns, all 0.
 pub fn no_exponents() -> [usize; Params::MOST_COLUMNS]
-    ensures { λ x. ⌜ length x ≡ 60 ⌝ }
+    ensures { λ x. ⌜ (x ≡ replicate 60 0) × (length x ≡ 60) ⌝ }
 {
     [0usize; Params::MOST_COLUMNS]
 }

@@ -18,7 +18,7 @@ pub enum Element {
 }
 
 // x^a · w
-pub fn rotate(w: u64, a: usize, p: usize) -> u64
+fn rotate(w: u64, a: usize, p: usize) -> u64
     requires { ⌜ (w < 2 ^ p) × (a ≤ p) × (p ≤ 61) ⌝ }
     ensures { λ r. ⌜ r ≡ turnOf p a w ⌝ }
 {
@@ -44,7 +44,7 @@ fn picked(b: u64, w: u64) -> u64
 }
 
 // u · v
-pub fn multiply(u: u64, v: u64, p: usize) -> u64
+fn multiply(u: u64, v: u64, p: usize) -> u64
     requires { ⌜ Factor p v ⌝ }
     ensures { λ r. ⌜ r ≡ productOf p u v ⌝ }
 {

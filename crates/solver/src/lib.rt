@@ -109,7 +109,7 @@ fn ascend(xs: &[usize], ys: &[usize], v: &mut [u64], p: usize)
 }
 
 // solves the system of the exponents xs, ys for the words of v
-pub fn solve(xs: &[usize], ys: &[usize], v: &mut [u64], p: usize)
+fn solve(xs: &[usize], ys: &[usize], v: &mut [u64], p: usize)
     requires { ⌜ Modulus p × System p (now xs) (now ys) (now v) ⌝ }
     ensures { λ _. ⌜ now (v .exit) ≡ solveOf p (now (xs .entry)) (now (ys .entry)) (now (v .entry)) ⌝ }
 {

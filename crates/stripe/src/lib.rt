@@ -2,7 +2,7 @@
 use refusal::Refusal;
 ghost use mathlib.Core.Path.{_≡_};
 ghost use Prim.Native.Nat.{_+_, _*_, _<_, _≤_};
-ghost use lib.ListN.{length};
+ghost use lib.ListN.{length, replicate};
 ghost use Rattle.laws.specs.Number.{u16, u32, put16, put32};
 ghost use Rattle.stripe.specs.Params.{admitted-prime, admitted-shape, admitted-strip, checkedOf, Admitted};
 ghost use Rattle.stripe.specs.Layout.{rows, column-length, revision-at, data-at, strip-at, parity-at, parity-strip-at, image-length};
@@ -60,7 +60,7 @@ impl Params {
 
     // A strip of the largest length to work in, all 0.
     pub fn blank_strip() -> [u8; Params::LARGEST_STRIP]
-        ensures { λ x. ⌜ length x ≡ 512 ⌝ }
+        ensures { λ x. ⌜ (x ≡ replicate 512 0) × (length x ≡ 512) ⌝ }
     {
         [0u8; Params::LARGEST_STRIP]
     }
@@ -213,7 +213,7 @@ fn join32(lo: u16, hi: u16) -> u32
 }
 
 // The number of 16 bits at a place.
-pub fn u16_at(s: &[u8], at: usize) -> u16
+fn u16_at(s: &[u8], at: usize) -> u16
     requires { ⌜ at + 2 ≤ length (now s) ⌝ }
     ensures { λ r. ⌜ r ≡ u16 (now (s .entry)) at ⌝ }
 {

@@ -172,7 +172,7 @@ fn listed(word: &[u8]) -> Lost
 }
 
 // The pattern of the columns that a word lists; nothing and `-` list none.
-pub fn columns(word: &[u8]) -> Lost
+fn columns(word: &[u8]) -> Lost
     ensures { λ x. ⌜ x ≡ columnsOf (now (word .entry)) ⌝ }
 {
     if word.len() == 0 {
