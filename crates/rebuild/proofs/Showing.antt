@@ -24,12 +24,16 @@ use Rattle.pattern.specs.Inner.{Cell}
 use Rattle.pattern.specs.Pattern.{asked, is-lost}
 use Rattle.rebuild.specs.Inner.{Strip-place}
 
+-- what is chosen by a test whose answer is known
+chosen : {A : Type 0} (x y : A) {b t : Bool} → b ≡ t → choose b x y ≡ choose t x y
+chosen x y e = ap (λ (b : Bool). choose b x y) e
+
 -- ---- where a strip starts
 
 module _ (q : Params) (n t x : ℕ) (c : Cell q n t) where
   pub data-place : n < q .k → x ≡ strip-at q n t → Strip-place q n t x
   data-place h e = record {
-    is = e ∙ sym (ap (λ (b : Bool). choose b (strip-at q n t) (parity-strip-at q (n - q .k) t)) (lt-ltb n (q .k) h));
+    is = e ∙ chosen _ _ (sym (lt-ltb n (q .k) h));
     inside = omega (arith, strip-in q n t h (c .row), parity-in q);
     small = omega (arith, strip-small q n t (c .admitted) h (c .row));
   }
@@ -38,7 +42,7 @@ module _ (q : Params) (n t x : ℕ) (c : Cell q n t) where
   parity-place h e =
       let l : n - q .k < q .r = omega (arith, c .column) in
       record {
-        is = e ∙ sym (ap (λ (b : Bool). choose b (strip-at q n t) (parity-strip-at q (n - q .k) t)) (le-ltb n (q .k) h));
+        is = e ∙ chosen _ _ (sym (le-ltb n (q .k) h));
         inside = omega (arith, parity-strip-in q (n - q .k) t l (c .row));
         small = omega (arith, parity-strip-small q (n - q .k) t (c .admitted) l (c .row));
       }
@@ -68,11 +72,11 @@ module _ (s c : List ℕ) (m n t : ℕ) (w : Reading) (e : w ≡ asked s m n t (
       module _ (h : l ≡ true) where
         pub shown-lost : take (q .b) c ≡ shown s m n t c
         unfolding shown shown-asked
-        shown-lost = ap (λ (b : Bool). choose b (take (q .b) c) (part s (column-strip-at q n t) (q .b))) (sym h ∙ g) ∙ ap (shown-asked s m n t c) (sym f ∙ e)
+        shown-lost = chosen _ _ (sym h ∙ g) ∙ ap (shown-asked s m n t c) (sym f ∙ e)
 
         pub shown-lost-at : (i j : ℕ × ℕ) → j ≡ shown-at s m n t (length c) i j
         unfolding shown-at shown-asked-at
-        shown-lost-at i j = ap (λ (b : Bool). choose b j (i .0, i .1 + column-strip-at q n t)) (sym h ∙ g) ∙ ap (shown-asked-at m n t i j) (sym f ∙ e)
+        shown-lost-at i j = chosen _ _ (sym h ∙ g) ∙ ap (shown-asked-at m n t i j) (sym f ∙ e)
 
       module _ (h : l ≡ false) (x : ℕ) (p : Strip-place q n t x) where
         pub shown-end : x + q .b ≤ length s
@@ -83,10 +87,10 @@ module _ (s c : List ℕ) (m n t : ℕ) (w : Reading) (e : w ≡ asked s m n t (
         shown-present =
             let z : x + q .b - x ≡ q .b = omega arith in
             ap₂ (λ (y v : ℕ). take y (drop v s)) z (p .is)
-            ∙ ap (λ (b : Bool). choose b (take (q .b) c) (part s (column-strip-at q n t) (q .b))) (sym h ∙ g) ∙ ap (shown-asked s m n t c) (sym f ∙ e)
+            ∙ chosen _ _ (sym h ∙ g) ∙ ap (shown-asked s m n t c) (sym f ∙ e)
 
         pub shown-present-at : (i j : ℕ × ℕ) → (i .0, x + i .1) ≡ shown-at s m n t (length c) i j
         unfolding shown-at shown-asked-at
         shown-present-at i j =
             ap (λ (y : ℕ). (i .0, y)) (add-comm x (i .1) ∙ ap (λ (y : ℕ). i .1 + y) (p .is))
-            ∙ ap (λ (b : Bool). choose b j (i .0, i .1 + column-strip-at q n t)) (sym h ∙ g) ∙ ap (shown-asked-at m n t i j) (sym f ∙ e)
+            ∙ chosen _ _ (sym h ∙ g) ∙ ap (shown-asked-at m n t i j) (sym f ∙ e)
