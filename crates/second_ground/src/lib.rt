@@ -273,18 +273,25 @@ pub fn divide(p: usize, s: u64, a: usize, b: usize, slip: u64) -> Answer {
     answered(0, divided(p, s, a, b, slip), 0)
 }
 
+// e = x + x^2 + .. + x^(p-1)
+fn one(p: usize) -> u64 {
+    ones_below(p) ^ 1
+}
+
+// (x^t + x^(p-1)) / (x^a + x^b); with coefficient p-1 forgotten, x^t times the inverse of x^a + x^b.
+fn changed(q: Shape, t: usize, a: usize, b: usize) -> u64 {
+    if q.slip == FORGOTTEN {
+        return multiplied(q.p, one_at(t), divided(q.p, one(q.p), a, b, q.slip));
+    }
+    divided(q.p, one_at(t) | one_at(rows(q)), a, b, q.slip)
+}
+
 // The rows of parity j that data strip (i, t) is added to: (x^t + x^(p-1)) / (x^j + x^(r+i)) below x^(p-1).
 pub fn touched(q: Shape, i: usize, t: usize, j: usize) -> u64 {
-    let last = if q.slip == FORGOTTEN {
-        0
-    } else {
-        one_at(rows(q))
-    };
-    let changed = one_at(t) | last;
     let quotient = if q.slip == EXPONENTS {
-        divided(q.p, changed, i, add(q.k, j), q.slip)
+        changed(q, t, i, add(q.k, j))
     } else {
-        divided(q.p, changed, j, add(q.r, i), q.slip)
+        changed(q, t, j, add(q.r, i))
     };
     quotient & ones_below(rows(q))
 }
