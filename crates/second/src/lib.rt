@@ -1,17 +1,24 @@
 // The second implementation of make, refill, check and write, from document 01 alone: each data strip is added to the parity strips that it is part of. Safe whatever it is handed, and slow.
-use refusal::Refusal;
+use second_ground::AHEAD;
 use second_ground::Answer;
+use second_ground::COLUMN;
 use second_ground::HALF_CIRCLE;
 use second_ground::HALVED;
 use second_ground::OPPOSITE;
 use second_ground::PLAIN;
+use second_ground::ROOM;
+use second_ground::ROW;
+use second_ground::STALE;
 use second_ground::Shape;
+use second_ground::UNCLEAR;
+use second_ground::WIDTH;
 use second_ground::answered;
 use second_ground::column_at;
 use second_ground::column_size;
 use second_ground::last_count_at;
 use second_ground::length;
 use second_ground::read;
+use second_ground::refused;
 use second_ground::rows;
 use second_ground::shaped;
 use second_ground::strip_at;
@@ -127,10 +134,10 @@ pub fn make(
         return q.refusal;
     }
     if given.len() != times(k, column_size(q)) {
-        return Refusal::number(Refusal::Width);
+        return WIDTH;
     }
     if image.len() != length(q) {
-        return Refusal::number(Refusal::Room);
+        return ROOM;
     }
     add_bytes(image, 0, 0, length(q));
     begin(image, q);
@@ -163,7 +170,7 @@ fn wrong(image: &[u8], due: &[u8], q: Shape, r: usize) -> u64 {
 pub fn check(image: &[u8], room: &mut [u8], slip: u64) -> Answer {
     let q = read(image, slip);
     if q.refusal != 0 {
-        return answered(q.refusal, 0, 0);
+        return refused(q.refusal);
     }
     copy(room, 0, image, 0, image.len());
     set_parity(room, q, all_columns(q), q.r);
@@ -203,27 +210,23 @@ fn judged(n: u64, b: u64, slip: u64) -> Answer {
     }
     let older = less_serial(b, n, slip);
     if !older && !less_serial(n, b, slip) {
-        return answered(Refusal::number(Refusal::Unclear), 0, 0);
+        return refused(UNCLEAR);
     }
     let d = low_half(std::num::wrapping_sub_u64(n, b)) as u64;
-    let refusal = if older {
-        Refusal::Stale
-    } else {
-        Refusal::Ahead
-    };
-    answered(refusal.number(), off_by(d, older, slip), 0)
+    let refusal = if older { STALE } else { AHEAD };
+    answered(refusal, off_by(d, older, slip), 0)
 }
 
 // The refusal of where and how wide a write to an accepted image is, or 0.
 pub fn misplaced(q: Shape, column: usize, row: usize, width: usize) -> u64 {
     if column >= q.k {
-        return Refusal::number(Refusal::Column);
+        return COLUMN;
     }
     if row >= rows(q) {
-        return Refusal::number(Refusal::Row);
+        return ROW;
     }
     if width != q.b {
-        return Refusal::number(Refusal::Width);
+        return WIDTH;
     }
     0
 }
@@ -293,11 +296,11 @@ pub fn write(
 ) -> Answer {
     let q = read(image, slip);
     if q.refusal != 0 {
-        return answered(q.refusal, 0, 0);
+        return refused(q.refusal);
     }
     let place = misplaced(q, column, row, strip.len());
     if place != 0 {
-        return answered(place, 0, 0);
+        return refused(place);
     }
     let time = untimely(image, q, column, base);
     if time.refusal != 0 {

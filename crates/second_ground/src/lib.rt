@@ -1,6 +1,5 @@
 // The second implementation's ground, from document 01 alone: parameters, places, reading, the ring and which strips make up parity. Words are divided by
-// walking the chain c_(q-a) + c_(q-b) = s_q. Safe whatever it is handed. `slip`: 0, or the number of a slip of document 01 to make.
-use refusal::Refusal;
+// walking the chain c_(q-a) + c_(q-b) = s_q. Safe whatever it is handed. `slip`: 0, or the number of a slip to make.
 use total::add;
 use total::bit;
 use total::less;
@@ -10,6 +9,41 @@ use total::ones;
 use total::ones_below;
 use total::rest;
 use total::times;
+
+// The numbers of refusal, read from the documents a second time.
+pub const CUT: u64 = 1;
+
+pub const TAIL: u64 = 2;
+
+pub const COUNT: u64 = 3;
+
+pub const PRIME: u64 = 4;
+
+pub const SHAPE: u64 = 5;
+
+pub const STRIP: u64 = 6;
+
+pub const WIDTH: u64 = 7;
+
+pub const COLUMN: u64 = 8;
+
+pub const ROW: u64 = 9;
+
+pub const STALE: u64 = 10;
+
+pub const AHEAD: u64 = 11;
+
+pub const MANY: u64 = 12;
+
+pub const ROOM: u64 = 13;
+
+pub const LONG: u64 = 14;
+
+pub const EXPONENT: u64 = 15;
+
+pub const ELEMENT: u64 = 16;
+
+pub const UNCLEAR: u64 = 17;
 
 // Storing the zeroed-coefficient form.
 pub const ZEROED: u64 = 1;
@@ -62,19 +96,31 @@ pub fn answered(refusal: u64, first: u64, second: u64) -> Answer {
 }
 
 // The answer of a refusal.
-fn refused(e: Refusal) -> Answer {
-    answered(e.number(), 0, 0)
+pub fn refused(refusal: u64) -> Answer {
+    answered(refusal, 0, 0)
 }
 
 // The shape of a refusal.
-pub fn unshaped(e: Refusal) -> Shape {
+pub fn unshaped(refusal: u64) -> Shape {
     Shape {
-        refusal: e.number(),
+        refusal,
         p: 0,
         k: 0,
         r: 0,
         b: 0,
         slip: 0,
+    }
+}
+
+// The shape of four numbers, untested.
+pub fn untested(p: usize, k: usize, r: usize, b: usize, slip: u64) -> Shape {
+    Shape {
+        refusal: 0,
+        p,
+        k,
+        r,
+        b,
+        slip,
     }
 }
 
@@ -97,25 +143,18 @@ fn misshapen(p: usize, k: usize, r: usize) -> bool {
     add(k, r) > p
 }
 
-// The shape of four numbers: PRIME, SHAPE, STRIP.
+// The shape of four numbers, tested: PRIME, SHAPE, STRIP.
 pub fn shaped(p: usize, k: usize, r: usize, b: usize, slip: u64) -> Shape {
     if !prime(p) {
-        return unshaped(Refusal::Prime);
+        return unshaped(PRIME);
     }
     if misshapen(p, k, r) {
-        return unshaped(Refusal::Shape);
+        return unshaped(SHAPE);
     }
     if b == 0 || b > 512 {
-        return unshaped(Refusal::Strip);
+        return unshaped(STRIP);
     }
-    Shape {
-        refusal: 0,
-        p,
-        k,
-        r,
-        b,
-        slip,
-    }
+    untested(p, k, r, b, slip)
 }
 
 // The rows of a column.
@@ -152,17 +191,17 @@ pub fn last_count_at(q: Shape) -> usize {
 // Reading where section 1 is sound: the length, then the other counts.
 fn read_on(image: &[u8], q: Shape) -> Shape {
     if image.len() < length(q) {
-        return unshaped(Refusal::Cut);
+        return unshaped(CUT);
     }
     if image.len() > length(q) {
-        return unshaped(Refusal::Tail);
+        return unshaped(TAIL);
     }
     let three = add(12, times(4, q.k));
     if number16(image, 10) != q.k
         || number16(image, three) != q.k
         || number16(image, last_count_at(q)) != q.r
     {
-        return unshaped(Refusal::Count);
+        return unshaped(COUNT);
     }
     q
 }
@@ -170,13 +209,13 @@ fn read_on(image: &[u8], q: Shape) -> Shape {
 // Reading.
 pub fn read(image: &[u8], slip: u64) -> Shape {
     if image.len() < 2 {
-        return unshaped(Refusal::Cut);
+        return unshaped(CUT);
     }
     if number16(image, 0) != 4 {
-        return unshaped(Refusal::Count);
+        return unshaped(COUNT);
     }
     if image.len() < 10 {
-        return unshaped(Refusal::Cut);
+        return unshaped(CUT);
     }
     let q = shaped(
         number16(image, 2),
@@ -251,10 +290,10 @@ fn divided(p: usize, s: u64, a: usize, b: usize, slip: u64) -> u64 {
 // The product of two elements.
 pub fn product(p: usize, u: u64, v: u64) -> Answer {
     if !prime(p) {
-        return refused(Refusal::Prime);
+        return refused(PRIME);
     }
     if no_element(p, u) || no_element(p, v) {
-        return refused(Refusal::Element);
+        return refused(ELEMENT);
     }
     answered(0, multiplied(p, u, v), 0)
 }
@@ -262,13 +301,13 @@ pub fn product(p: usize, u: u64, v: u64) -> Answer {
 // The division of an element by x^a + x^b.
 pub fn divide(p: usize, s: u64, a: usize, b: usize, slip: u64) -> Answer {
     if !prime(p) {
-        return refused(Refusal::Prime);
+        return refused(PRIME);
     }
     if no_element(p, s) {
-        return refused(Refusal::Element);
+        return refused(ELEMENT);
     }
     if a >= p || b >= p || a == b {
-        return refused(Refusal::Exponent);
+        return refused(EXPONENT);
     }
     answered(0, divided(p, s, a, b, slip), 0)
 }

@@ -1,5 +1,4 @@
 // The second implementation's rebuild, restore, show and write while columns are lost, by elimination on bits.
-use refusal::Refusal;
 use second::accept;
 use second::add_bytes;
 use second::add_columns;
@@ -8,15 +7,20 @@ use second::misplaced;
 use second::set_parity;
 use second::untimely;
 use second_ground::Answer;
+use second_ground::COLUMN;
 use second_ground::COUNTED;
 use second_ground::LATE;
+use second_ground::MANY;
 use second_ground::MOVED;
 use second_ground::READ;
+use second_ground::ROOM;
+use second_ground::ROW;
 use second_ground::Shape;
 use second_ground::answered;
 use second_ground::column_at;
 use second_ground::column_size;
 use second_ground::read;
+use second_ground::refused;
 use second_ground::rows;
 use second_ground::strip_at;
 use second_ground::touched;
@@ -230,10 +234,10 @@ pub fn rebuild(image: &mut [u8], lost: u64, slip: u64) -> u64 {
         return q.refusal;
     }
     if outside(q, lost) {
-        return Refusal::number(Refusal::Column);
+        return COLUMN;
     }
     if many(q, lost) {
-        return Refusal::number(Refusal::Many);
+        return MANY;
     }
     rebuild_lost(image, q, lost);
     0
@@ -246,16 +250,16 @@ fn asked(image: &[u8], lost: u64, column: usize, row: usize, room: usize, slip: 
         return q;
     }
     if outside(q, lost) || column >= add(q.k, q.r) {
-        return unshaped(Refusal::Column);
+        return unshaped(COLUMN);
     }
     if row >= rows(q) {
-        return unshaped(Refusal::Row);
+        return unshaped(ROW);
     }
     if many(q, lost) {
-        return unshaped(Refusal::Many);
+        return unshaped(MANY);
     }
     if room < q.b {
-        return unshaped(Refusal::Room);
+        return unshaped(ROOM);
     }
     q
 }
@@ -319,15 +323,15 @@ fn unwritten(
     width: usize,
 ) -> Answer {
     if outside(q, lost) {
-        return answered(Refusal::number(Refusal::Column), 0, 0);
+        return refused(COLUMN);
     }
     let place = misplaced(q, column, row, width);
     if place != 0 {
-        return answered(place, 0, 0);
+        return refused(place);
     }
     let time = untimely(image, q, column, base);
     if many(q, lost) && (time.refusal == 0 || q.slip != LATE) {
-        return answered(Refusal::number(Refusal::Many), 0, 0);
+        return refused(MANY);
     }
     time
 }
@@ -389,7 +393,7 @@ pub fn write(
 ) -> Answer {
     let q = read(image, slip);
     if q.refusal != 0 {
-        return answered(q.refusal, 0, 0);
+        return refused(q.refusal);
     }
     let no = unwritten(image, q, lost, column, row, base, strip.len());
     if no.refusal != 0 {

@@ -1,5 +1,5 @@
 // The second implementation's report.
-use refusal::Refusal;
+use second_ground::LONG;
 use second_ground::Shape;
 use total::add;
 use total::bit;
@@ -71,7 +71,7 @@ pub fn report(fd: i32) {
     let mut room = [0u8; 65537];
     let n = io::read_full(fd, &mut input);
     if n > 65536 {
-        refused(Refusal::number(Refusal::Long));
+        refused(LONG);
         return;
     }
     describe(&input[..n], &mut room);
