@@ -7,18 +7,29 @@ use second_ground::Answer;
 use second_ground::Shape;
 use second_ground::answered;
 use second_ground::column_size;
+use second_ground::refused;
+use second_ground::shaped;
+use second_ground::unshaped;
+use second_ground::untested;
+use stripe::Checked;
+use stripe::Params;
+use stripe::Reading;
 use total::add;
-use total::one_at;
 use total::part;
+use total::put_word;
 use total::times;
 use total::unlike;
+use total::word;
 use write::Written;
 
-// What was seen: cases, differences, and a bit for each number of refusal, bit 0 for none.
+// All numbers of refusal lie below it.
+pub const REFUSALS_END: usize = 18;
+
+// What was seen: cases, differences, and how often the library gave each number of refusal, at 0 how often none.
 pub struct Tally {
     pub cases: usize,
     pub differences: usize,
-    pub refusals: u64,
+    pub given: [u64; REFUSALS_END],
 }
 
 // Nothing seen yet.
@@ -26,25 +37,43 @@ pub fn nothing() -> Tally {
     Tally {
         cases: 0,
         differences: 0,
-        refusals: 0,
+        given: [0u64; REFUSALS_END],
+    }
+}
+
+// No case and no difference, for the next group; how often each refusal was given stands.
+pub fn afresh(t: Tally) -> Tally {
+    let given = t.given;
+    Tally {
+        cases: 0,
+        differences: 0,
+        given,
     }
 }
 
 // One more case.
 pub fn counted(t: Tally) -> Tally {
+    let given = t.given;
     Tally {
         cases: add(t.cases, 1),
         differences: t.differences,
-        refusals: t.refusals,
+        given,
     }
 }
 
 // More differences, and the number of a refusal that the library gave.
 pub fn noted(t: Tally, differences: usize, refusal: u64) -> Tally {
+    let mut given = t.given;
+    let before = word(&given, refusal as usize);
+    put_word(
+        &mut given,
+        refusal as usize,
+        std::num::wrapping_add_u64(before, 1),
+    );
     Tally {
         cases: t.cases,
         differences: add(t.differences, differences),
-        refusals: t.refusals | one_at(refusal as usize),
+        given,
     }
 }
 
@@ -59,6 +88,13 @@ pub fn answers_apart(a: Answer, b: Answer) -> usize {
     add(apart(a.refusal, b.refusal), numbers)
 }
 
+// How many of the numbers of two shapes are different.
+pub fn shapes_apart(a: Shape, b: Shape) -> usize {
+    let sizes = add(apart(a.p as u64, b.p as u64), apart(a.b as u64, b.b as u64));
+    let columns = add(apart(a.k as u64, b.k as u64), apart(a.r as u64, b.r as u64));
+    add(apart(a.refusal, b.refusal), add(sizes, columns))
+}
+
 // How many bytes are different in two slices, and one more where their lengths are.
 pub fn slices_apart(s: &[u8], t: &[u8]) -> usize {
     add(
@@ -67,11 +103,32 @@ pub fn slices_apart(s: &[u8], t: &[u8]) -> usize {
     )
 }
 
+// Parameters that the library found sound.
+fn of_params(q: Params) -> Shape {
+    untested(q.p, q.k, q.r, q.b, 0)
+}
+
+// The answer of the parameters' test in numbers.
+pub fn of_checked(c: Checked) -> Shape {
+    match c {
+        Checked::Sound(q) => of_params(q),
+        Checked::Refused(no) => unshaped(no.number()),
+    }
+}
+
+// The answer of reading in numbers.
+pub fn of_reading(r: Reading) -> Shape {
+    match r {
+        Reading::Stripe(q) => of_params(q),
+        Reading::Refused(no) => unshaped(no.number()),
+    }
+}
+
 // The answer of the ring's calls in numbers.
 fn of_element(e: Element) -> Answer {
     match e {
         Element::Word(w) => answered(0, w, 0),
-        Element::Refused(no) => answered(no.number(), 0, 0),
+        Element::Refused(no) => refused(no.number()),
     }
 }
 
@@ -79,7 +136,7 @@ fn of_element(e: Element) -> Answer {
 fn of_checkup(c: Checkup) -> Answer {
     match c {
         Checkup::Wrong(w) => answered(0, w, 0),
-        Checkup::Refused(no) => answered(no.number(), 0, 0),
+        Checkup::Refused(no) => refused(no.number()),
     }
 }
 
@@ -88,7 +145,7 @@ pub fn of_written(w: Written) -> Answer {
     match w {
         Written::Accepted(revision, count) => answered(0, revision as u64, count),
         Written::Aged(age) => answered(age.number(), age.distance() as u64, 0),
-        Written::Refused(no) => answered(no.number(), 0, 0),
+        Written::Refused(no) => refused(no.number()),
     }
 }
 
@@ -98,6 +155,18 @@ pub fn of_outcome(o: Outcome) -> u64 {
         Outcome::Done => 0,
         Outcome::Refused(no) => no.number(),
     }
+}
+
+// The parameters' test of four numbers.
+pub fn parameters(t: Tally, q: Shape) -> Tally {
+    let a = of_checked(Params::checked(q.p, q.k, q.r, q.b));
+    noted(t, shapes_apart(a, shaped(q.p, q.k, q.r, q.b, 0)), a.refusal)
+}
+
+// Reading.
+pub fn read(t: Tally, image: &[u8]) -> Tally {
+    let a = of_reading(stripe::read(image));
+    noted(t, shapes_apart(a, second_ground::read(image, 0)), a.refusal)
 }
 
 // The product of two words.

@@ -6,6 +6,7 @@ use second_ground::column_size;
 use second_ground::length;
 use second_ground::rows;
 use second_ground::shaped;
+use second_ground::untested;
 use total::add;
 use total::bit;
 use total::less;
@@ -163,24 +164,36 @@ fn strip_shape(c: usize, slip: u64) -> Shape {
     }
 }
 
+// A number; in one of 16 cases any number of 64 bits in its place.
+fn or_any(n: usize, c: usize, what: usize) -> usize {
+    if seldom(c, add(what, 1), 16) {
+        drawn(c, what) as usize
+    } else {
+        n
+    }
+}
+
 // Numbers of which most are no shape.
 fn odd_shape(c: usize, slip: u64) -> Shape {
-    Shape {
-        refusal: 0,
-        p: if seldom(c, 1, 4) {
-            below(c, 2, 70)
-        } else {
-            prime_of(rest(c, 17))
-        },
-        k: below(c, 3, if seldom(c, 4, 4) { 70 } else { 3 }),
-        r: below(c, 5, if seldom(c, 6, 4) { 70 } else { 3 }),
-        b: if seldom(c, 7, 4) {
-            times(513, below(c, 8, 2))
-        } else {
-            1
-        },
+    let p = if seldom(c, 1, 4) {
+        below(c, 2, 70)
+    } else {
+        prime_of(rest(c, 17))
+    };
+    let k = below(c, 3, if seldom(c, 4, 4) { 70 } else { 3 });
+    let r = below(c, 5, if seldom(c, 6, 4) { 70 } else { 3 });
+    let b = if seldom(c, 7, 4) {
+        times(513, below(c, 8, 2))
+    } else {
+        1
+    };
+    untested(
+        or_any(p, c, 500),
+        or_any(k, c, 502),
+        or_any(r, c, 504),
+        or_any(b, c, 506),
         slip,
-    }
+    )
 }
 
 // Fills n bytes at a place with drawn ones.

@@ -1,10 +1,9 @@
 // Runs the examples of document 01 and drawn cases through the library and the second implementation, and prints a line a group.
+use comparing::Tally;
+use comparing::nothing;
 use telling::say;
 use telling::tell;
 use total::add;
-
-// All numbers of refusal lie below it.
-const REFUSALS_END: usize = 18;
 
 // How many cases a group has.
 fn cases_of(group: usize) -> usize {
@@ -22,24 +21,42 @@ fn cases_of(group: usize) -> usize {
     }
 }
 
-// A group of drawn cases; the refusals seen are joined with those seen before.
-fn run_group(group: usize, seen: u64, one: &mut [u8], two: &mut [u8], room: &mut [u8]) -> u64 {
-    let t = trials::run(group, cases_of(group), 0, one, two, room);
+// A group of drawn cases; refusals are counted on from those of the groups before it.
+fn run_group(
+    group: usize,
+    before: Tally,
+    one: &mut [u8],
+    two: &mut [u8],
+    room: &mut [u8],
+) -> Tally {
+    let t = trials::run(group, cases_of(group), 0, before, one, two, room);
     telling::say_group(group);
     tell(t);
-    t.refusals | seen
+    t
 }
 
-// All groups of drawn cases.
-fn run_groups(seen: u64, n: usize, one: &mut [u8], two: &mut [u8], room: &mut [u8]) -> u64 {
-    let mut refusals = seen;
+// The first n groups of drawn cases.
+fn run_groups(n: usize, one: &mut [u8], two: &mut [u8], room: &mut [u8]) -> Tally {
+    let mut t = nothing();
     for group in 0..n {
-        refusals = run_group(group, refusals, one, two, room);
+        t = run_group(group, t, one, two, room);
     }
-    refusals
+    t
 }
 
-// How many differences a planted slip makes in the first cases of n groups and of the writes while columns are away.
+// How many differences a planted slip makes in the first cases of a group.
+fn group_differences(
+    group: usize,
+    slip: u64,
+    one: &mut [u8],
+    two: &mut [u8],
+    room: &mut [u8],
+) -> usize {
+    let t = trials::run(group, 68, slip, nothing(), one, two, room);
+    t.differences
+}
+
+// The same in n groups and in the writes while columns are away.
 fn drawn_differences(
     slip: u64,
     n: usize,
@@ -47,18 +64,16 @@ fn drawn_differences(
     two: &mut [u8],
     room: &mut [u8],
 ) -> usize {
-    let away = trials::run(drawing::AWAY, 68, slip, one, two, room);
-    let mut found = away.differences;
+    let mut found = group_differences(drawing::AWAY, slip, one, two, room);
     for group in 0..n {
-        let t = trials::run(group, 68, slip, one, two, room);
-        found = add(found, t.differences);
+        found = add(found, group_differences(group, slip, one, two, room));
     }
     found
 }
 
 // Plants a slip in the second implementation; the document's examples and drawn cases have to find it.
 fn plant(slip: u64, one: &mut [u8], two: &mut [u8], room: &mut [u8]) {
-    let documented = documented::slips(comparing::nothing(), slip);
+    let documented = documented::slips(nothing(), slip);
     let drawn = drawn_differences(slip, 6, one, two, room);
     telling::tell_slip(slip, documented.differences, drawn);
 }
@@ -72,16 +87,14 @@ fn self_test(n: u64, one: &mut [u8], two: &mut [u8], room: &mut [u8]) {
 
 // The document's examples, all groups and the self-test, in lent room.
 fn run(one: &mut [u8], two: &mut [u8], room: &mut [u8]) {
-    let limits = documented::limits(comparing::nothing());
+    let limits = documented::limits(nothing());
     say(b"limits");
     tell(limits);
-    let slips = documented::slips(comparing::nothing(), 0);
+    let slips = documented::slips(nothing(), 0);
     say(b"slips");
     tell(slips);
-    telling::tell_refusals(
-        run_groups(limits.refusals | slips.refusals, 10, one, two, room),
-        REFUSALS_END,
-    );
+    let drawn = run_groups(10, one, two, room);
+    telling::tell_refusals(drawn, comparing::REFUSALS_END);
     self_test(10, one, two, room);
 }
 

@@ -22,7 +22,7 @@ fn spoil_parity(image: &mut [u8], q: Shape, c: usize) {
     fill(image, at, q.b, add(c, 1));
 }
 
-// Make and check.
+// The parameters' test, make, reading and check.
 fn try_right(
     t: Tally,
     q: Shape,
@@ -31,8 +31,8 @@ fn try_right(
     two: &mut [u8],
     room: &mut [u8],
 ) -> Tally {
-    let made = make_drawn(t, q, c, one, two, room);
-    comparing::check(made, one, room, q.slip)
+    let made = make_drawn(comparing::parameters(t, q), q, c, one, two, room);
+    comparing::check(comparing::read(made, one), one, room, q.slip)
 }
 
 // Check of a spoiled parity.
@@ -49,7 +49,7 @@ fn try_spoiled(
     comparing::check(t, one, room, q.slip)
 }
 
-// Make, check, check of a spoiled parity, refill.
+// The parameters' test, make, reading, check, check of a spoiled parity, refill.
 pub fn try_made(
     t: Tally,
     q: Shape,
@@ -63,7 +63,7 @@ pub fn try_made(
     comparing::refill(spoiled, one, two, q.slip)
 }
 
-// Make with data or an image of a length that is not always due.
+// The parameters' test, and make with data or an image of a length that is not always due.
 pub fn try_unmade(
     t: Tally,
     q: Shape,
@@ -74,7 +74,8 @@ pub fn try_unmade(
 ) -> Tally {
     let due = times(q.k, column_size(q));
     let n = if seldom(c, 10, 3) { add(due, 1) } else { due };
-    comparing::make(t, q, part(room, 0, n), one, two)
+    let tested = comparing::parameters(t, q);
+    comparing::make(tested, q, part(room, 0, n), one, two)
 }
 
 // Changes one number of the header or one count.

@@ -1,6 +1,7 @@
 // What the program `examples` writes: names of groups and slips, what was seen, and both reports of a file.
 use comparing::Tally;
-use total::bit;
+use second_ground::LONG;
+use total::word;
 
 // Writes a text.
 pub fn say(text: &[u8]) {
@@ -38,13 +39,27 @@ pub fn say_group(group: usize) {
     }
 }
 
-// The numbers below n of the refusals seen.
-pub fn tell_refusals(seen: u64, n: usize) {
-    say(b"refusals seen:");
+// How often drawn cases met a refusal: never stands out. 0 is no refusal, and LONG is given by a report alone.
+fn tell_refusal(refusal: usize, times: u64) {
+    if refusal == 0 || refusal as u64 == LONG {
+        return;
+    }
+    number(refusal);
+    if times == 0 {
+        say(b" (NEVER)");
+    } else {
+        say(b" (");
+        io::print_decimal(1, times);
+        say(b")");
+    }
+}
+
+// How often drawn cases met each of the refusals below n.
+pub fn tell_refusals(t: Tally, n: usize) {
+    let given = t.given;
+    say(b"refusals met by drawn cases (how often):");
     for refusal in 0..n {
-        if refusal > 0 && bit(seen, refusal) {
-            number(refusal);
-        }
+        tell_refusal(refusal, word(&given, refusal));
     }
     say(b"\n");
 }

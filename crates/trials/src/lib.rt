@@ -26,9 +26,9 @@ use second_ground::length;
 use total::add;
 use total::rest;
 
-// Check, restore and show.
+// Reading, check, restore and show.
 fn try_looks(t: Tally, q: Shape, c: usize, lost: u64, image: &[u8], room: &mut [u8]) -> Tally {
-    let checked = comparing::check(t, image, room, q.slip);
+    let checked = comparing::check(comparing::read(t, image), image, room, q.slip);
     losses::try_strip(checked, q, c, lost, image, room)
 }
 
@@ -75,7 +75,7 @@ fn try_calls(
     try_changes(looked, q, c, lost, one, two, room)
 }
 
-// Make, check and refill, then every call.
+// A history of writes; make, check and refill; then every call.
 fn try_strips(
     t: Tally,
     q: Shape,
@@ -84,7 +84,8 @@ fn try_strips(
     two: &mut [u8],
     room: &mut [u8],
 ) -> Tally {
-    let made = makings::try_made(t, q, c, one, two, room);
+    let written = histories::try_history(t, q, c, one, two, room);
+    let made = makings::try_made(written, q, c, one, two, room);
     try_calls(made, q, c, one, two, room)
 }
 
@@ -193,16 +194,17 @@ fn try_case(
     }
 }
 
-// The first n cases of a group.
+// The first n cases of a group; refusals are counted on from those of the groups before it.
 pub fn run(
     group: usize,
     n: usize,
     slip: u64,
+    before: Tally,
     one: &mut [u8],
     two: &mut [u8],
     room: &mut [u8],
 ) -> Tally {
-    let mut t = comparing::nothing();
+    let mut t = comparing::afresh(before);
     for c in 0..n {
         t = try_case(group, counted(t), c, slip, one, two, room);
     }

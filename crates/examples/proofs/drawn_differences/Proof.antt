@@ -13,14 +13,14 @@ Inv-loop slip n one₀ two₀ room₀ found₀ group₀ one two room found group
 abbrev μ-loop : tie.MeasureT-loop
 μ-loop slip n one₀ two₀ room₀ found₀ group₀ one two room found group = n - group
 
-run-requires : tie.Need-run-requires Inv-loop μ-loop
-run-requires c κs = search needs
+group-differences-requires : tie.Need-group-differences-requires Inv-loop μ-loop
+group-differences-requires c κs = search needs
 
 loop-holds : tie.Need-loop-holds Inv-loop μ-loop
 loop-holds c = search needs
 
-run-requires-2 : tie.Need-run-requires-2 Inv-loop μ-loop
-run-requires-2 c κs = search needs
+group-differences-requires-2 : tie.Need-group-differences-requires-2 Inv-loop μ-loop
+group-differences-requires-2 c κs = search needs
 
 add-requires : tie.Need-add-requires Inv-loop μ-loop
 add-requires c κs = search needs
@@ -52,9 +52,9 @@ drawn-differences-spec =
     (tie.spec
     Inv-loop
     μ-loop
-    run-requires
+    group-differences-requires
     loop-holds
-    run-requires-2
+    group-differences-requires-2
     add-requires
     add-group
     loop-less

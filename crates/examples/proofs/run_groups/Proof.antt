@@ -8,10 +8,13 @@ use Rattle.examples.proofs.run_groups.Statement.{statement}
 use Rattle.examples.proofs.run_groups.Tie as tie
 
 abbrev Inv-loop : tie.InvT-loop
-Inv-loop seen n one₀ two₀ room₀ refusals₀ group₀ one two room refusals group = (group ≤ n) × (length one ≡ length one₀) × (length two ≡ length two₀) × (length room ≡ length room₀)
+Inv-loop n one₀ two₀ room₀ t₀ group₀ one two room t group = (group ≤ n) × (length one ≡ length one₀) × (length two ≡ length two₀) × (length room ≡ length room₀)
 
 abbrev μ-loop : tie.MeasureT-loop
-μ-loop seen n one₀ two₀ room₀ refusals₀ group₀ one two room refusals group = n - group
+μ-loop n one₀ two₀ room₀ t₀ group₀ one two room t group = n - group
+
+nothing-requires : tie.Need-nothing-requires Inv-loop μ-loop
+nothing-requires c κs = search needs
 
 loop-holds : tie.Need-loop-holds Inv-loop μ-loop
 loop-holds c = search needs
@@ -46,6 +49,7 @@ run-groups-spec =
     (tie.spec
     Inv-loop
     μ-loop
+    nothing-requires
     loop-holds
     run-group-requires
     add-group

@@ -6,10 +6,10 @@ use Rattle.telling.proofs.tell_refusals.Statement.{statement}
 use Rattle.telling.proofs.tell_refusals.Tie as tie
 
 abbrev Inv-loop : tie.InvT-loop
-Inv-loop seen n refusal₀ t5 refusal = refusal ≤ n
+Inv-loop n given refusal₀ t6 refusal = refusal ≤ n
 
 abbrev μ-loop : tie.MeasureT-loop
-μ-loop seen n refusal₀ t5 refusal = n - refusal
+μ-loop n given refusal₀ t6 refusal = n - refusal
 
 slice-aggregate-say : tie.Need-slice-aggregate-say Inv-loop μ-loop
 slice-aggregate-say c = search needs
@@ -20,11 +20,14 @@ say-requires c κs = search needs
 loop-holds : tie.Need-loop-holds Inv-loop μ-loop
 loop-holds c = search needs
 
-bit-requires : tie.Need-bit-requires Inv-loop μ-loop
-bit-requires c κs = search needs
+slice-aggregate-word : tie.Need-slice-aggregate-word Inv-loop μ-loop
+slice-aggregate-word c = search needs
 
-number-requires : tie.Need-number-requires Inv-loop μ-loop
-number-requires c κs = search needs
+word-requires : tie.Need-word-requires Inv-loop μ-loop
+word-requires c κs = search needs
+
+tell-refusal-requires : tie.Need-tell-refusal-requires Inv-loop μ-loop
+tell-refusal-requires c κs = search needs
 
 add-refusal : tie.Need-add-refusal Inv-loop μ-loop
 add-refusal c = search needs
@@ -53,8 +56,9 @@ tell-refusals-spec =
     slice-aggregate-say
     say-requires
     loop-holds
-    bit-requires
-    number-requires
+    slice-aggregate-word
+    word-requires
+    tell-refusal-requires
     add-refusal
     loop-less
     loop-again

@@ -13,8 +13,8 @@ Inv-loop group n slip one₀ two₀ room₀ t₀ c₀ one two room t c = (c ≤ 
 abbrev μ-loop : tie.MeasureT-loop
 μ-loop group n slip one₀ two₀ room₀ t₀ c₀ one two room t c = n - c
 
-nothing-requires : tie.Need-nothing-requires Inv-loop μ-loop
-nothing-requires c κs = search needs
+afresh-requires : tie.Need-afresh-requires Inv-loop μ-loop
+afresh-requires c κs = search needs
 
 loop-holds : tie.Need-loop-holds Inv-loop μ-loop
 loop-holds c = search needs
@@ -52,7 +52,7 @@ run-spec =
     (tie.spec
     Inv-loop
     μ-loop
-    nothing-requires
+    afresh-requires
     loop-holds
     counted-requires
     try-case-requires
