@@ -1,18 +1,28 @@
 // The examples of document 01 that are run and not proved, its limits and its slips: both implementations give what the document says.
 use comparing::Tally;
 use comparing::answers_apart;
+use comparing::apart;
 use comparing::counted;
 use comparing::noted;
+use comparing::of_checked;
 use comparing::of_outcome;
+use comparing::of_reading;
 use comparing::of_written;
+use comparing::shapes_apart;
 use comparing::slices_apart;
 use second_ground::Answer;
+use second_ground::FORGOTTEN;
 use second_ground::HALF_CIRCLE;
+use second_ground::PLAIN;
+use second_ground::Shape;
+use second_ground::ZEROED;
 use second_ground::answered;
+use second_ground::column_at;
+use second_ground::read;
 use second_ground::shaped;
-use stripe::Checked;
+use second_ground::unshaped;
+use second_ground::untested;
 use stripe::Params;
-use stripe::Reading;
 use total::add;
 use total::part;
 
@@ -35,22 +45,6 @@ pub fn spoiled_example() -> [u8; 40] {
     image_of(
         b"\x04\x00\x05\x00\x02\x00\x02\x00\x01\x00\x02\x00\x00\x00\x00\x00\x07\x00\x00\x00\x02\x00\xff\x01\x4d\x09\x03\xff\x00\x12\x02\x00\x03\x00\x03\x02\x03\x03\x03\x00",
     )
-}
-
-// The number of a refusal of parameters, or 0.
-fn of_checked(c: Checked) -> u64 {
-    match c {
-        Checked::Sound(_) => 0,
-        Checked::Refused(e) => e.number(),
-    }
-}
-
-// The number of a refusal of an image, or 0.
-fn of_reading(r: Reading) -> u64 {
-    match r {
-        Reading::Stripe(_) => 0,
-        Reading::Refused(e) => e.number(),
-    }
 }
 
 // Two answers that are both to be the due one.
@@ -78,21 +72,39 @@ fn image_due(t: Tally, one: &[u8], two: &[u8], image: &[u8]) -> Tally {
     )
 }
 
-// Parameters and their refusal.
+// Two shapes that are both to be the due one.
+fn shape_due(t: Tally, a: Shape, b: Shape, shape: Shape) -> Tally {
+    let differences = add(shapes_apart(a, shape), shapes_apart(b, shape));
+    noted(counted(t), differences, a.refusal)
+}
+
+// The shape of four numbers where no refusal is due, else that of the refusal.
+fn shape_of(p: usize, k: usize, r: usize, b: usize, number: u64) -> Shape {
+    if number == 0 {
+        untested(p, k, r, b, 0)
+    } else {
+        unshaped(number)
+    }
+}
+
+// Parameters, and the refusal that is due or 0.
 fn limit(t: Tally, p: usize, k: usize, r: usize, b: usize, number: u64) -> Tally {
-    let q = shaped(p, k, r, b, 0);
-    due(
+    shape_due(
         t,
         of_checked(Params::checked(p, k, r, b)),
-        q.refusal,
-        number,
+        shaped(p, k, r, b, 0),
+        shape_of(p, k, r, b, number),
     )
 }
 
-// An image and its refusal.
+// I, or I with fewer or more bytes, and the refusal that is due or 0.
 fn reading(t: Tally, image: &[u8], number: u64) -> Tally {
-    let q = second_ground::read(image, 0);
-    due(t, of_reading(stripe::read(image)), q.refusal, number)
+    shape_due(
+        t,
+        of_reading(stripe::read(image)),
+        read(image, 0),
+        shape_of(5, 2, 2, 1, number),
+    )
 }
 
 // The limits of the parameters.
@@ -134,6 +146,11 @@ fn made(
     image_due(t1, one, two, image)
 }
 
+// The data of P4.
+fn fourth() -> [u8; 8] {
+    [1, 0, 0, 0, 0, 0, 0, 0]
+}
+
 // The zeroed-coefficient form is not stored: P4.
 fn zeroed(t: Tally, slip: u64) -> Tally {
     let mut one = [0u8; 40];
@@ -143,7 +160,7 @@ fn zeroed(t: Tally, slip: u64) -> Tally {
         5,
         2,
         2,
-        b"\x01\x00\x00\x00\x00\x00\x00\x00",
+        &fourth(),
         &mut one,
         &mut two,
         b"\x04\x00\x05\x00\x02\x00\x02\x00\x01\x00\x02\x00\x00\x00\x00\x00\x00\x00\x00\x00\x02\x00\x01\x00\x00\x00\x00\x00\x00\x00\x02\x00\x01\x00\x01\x00\x01\x01\x01\x00",
@@ -184,27 +201,27 @@ fn write_due(
     image_due(t1, one, two, image)
 }
 
-// A base before the revision on the circle is STALE, behind by 1, one after it AHEAD, by 1, and one half the circle away UNCLEAR; a changed strip also
-// changes coefficient p-1, so rows 0 and 2 of parity 0 move.
-fn writes(t: Tally, slip: u64) -> Tally {
+// A write of 00 to column 0, row 0 of I that is refused: the due answer, and I.
+fn refused_due(t: Tally, base: u32, answer: Answer, slip: u64) -> Tally {
     let mut one = example();
     let mut two = example();
-    let stale = answered(10, 1, 0);
-    let ahead = answered(11, 1, 0);
-    let unclear = answered(17, 0, 0);
-    let t1 = write_due(t, &mut one, &mut two, 4294967295, stale, &example(), slip);
-    let t2 = write_due(t1, &mut one, &mut two, 1, ahead, &example(), slip);
-    let t3 = write_due(
-        t2,
-        &mut one,
-        &mut two,
-        HALF_CIRCLE,
-        unclear,
-        &example(),
-        slip,
-    );
+    write_due(t, &mut one, &mut two, base, answer, &example(), slip)
+}
+
+// A base before the revision on the circle is STALE, behind by 1 or by three notes, one after it AHEAD, by 1, and one half the circle away UNCLEAR.
+fn refused_writes(t: Tally, slip: u64) -> Tally {
+    let t1 = refused_due(t, 4294967295, answered(10, 1, 0), slip);
+    let t2 = refused_due(t1, 4294967293, answered(10, 3, 0), slip);
+    let t3 = refused_due(t2, 1, answered(11, 1, 0), slip);
+    refused_due(t3, HALF_CIRCLE, answered(17, 0, 0), slip)
+}
+
+// A changed strip also changes coefficient p-1, so rows 0 and 2 of parity 0 move.
+fn accepted_write(t: Tally, slip: u64) -> Tally {
+    let mut one = example();
+    let mut two = example();
     write_due(
-        t3,
+        t,
         &mut one,
         &mut two,
         0,
@@ -286,7 +303,47 @@ fn away_writes(t: Tally, slip: u64) -> Tally {
 pub fn slips(t: Tally, slip: u64) -> Tally {
     let t1 = zeroed(t, slip);
     let t2 = exponents(t1, slip);
-    let t3 = writes(t2, slip);
-    let t4 = lost(t3, slip);
-    away_writes(t4, slip)
+    let t3 = refused_writes(t2, slip);
+    let t4 = accepted_write(t3, slip);
+    let t5 = lost(t4, slip);
+    away_writes(t5, slip)
+}
+
+// How many strips of parity j of an image of the bench are not as they are due.
+fn parity_apart(image: &[u8; 40], j: usize, strips: &[u8]) -> usize {
+    let q = untested(5, 2, 2, 1, 0);
+    slices_apart(strips, part(image, column_at(q, add(2, j)), 4))
+}
+
+// "Storing the zeroed-coefficient form: in P4 parity 1 would be 00 00 00 01."
+fn zeroed_said(t: Tally) -> Tally {
+    let mut image = [0u8; 40];
+    let no = second::make(5, 2, 2, 1, &fourth(), &mut image, ZEROED);
+    let differences = parity_apart(&image, 1, b"\x00\x00\x00\x01");
+    noted(counted(t), add(apart(no, 0), differences), no)
+}
+
+// "a write at column 0, row 0 of I would touch rows 1 and 2 of parity 0": these are 00 and 03 there, and 00 is written over 01.
+fn forgotten_said(t: Tally) -> Tally {
+    let mut image = example();
+    let a = second::write(&mut image, 0, 0, 0, b"\x00", FORGOTTEN);
+    let differences = parity_apart(&image, 0, b"\x03\x01\x02\x02");
+    noted(counted(t), add(apart(a.refusal, 0), differences), a.refusal)
+}
+
+// "Comparing revisions by plain size, which fails P13": a base one before revision 0 is not STALE.
+fn plain_said(t: Tally) -> Tally {
+    let mut image = example();
+    let a = second::write(&mut image, 0, 0, 4294967295, b"\x00", PLAIN);
+    noted(counted(t), if a.refusal == 10 { 1 } else { 0 }, a.refusal)
+}
+
+// What the document says that a slip would do, where it says so: the second implementation with the slip does it.
+pub fn said(t: Tally, slip: u64) -> Tally {
+    match slip {
+        ZEROED => zeroed_said(t),
+        FORGOTTEN => forgotten_said(t),
+        PLAIN => plain_said(t),
+        _ => t,
+    }
 }

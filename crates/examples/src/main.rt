@@ -71,11 +71,16 @@ fn drawn_differences(
     found
 }
 
-// Plants a slip in the second implementation; the document's examples and drawn cases have to find it.
+// Plants a slip in the second implementation: the document's examples and drawn cases have to find it, and it has to do what the document says of it.
 fn plant(slip: u64, one: &mut [u8], two: &mut [u8], room: &mut [u8]) {
     let documented = documented::slips(nothing(), slip);
     let drawn = drawn_differences(slip, 6, one, two, room);
-    telling::tell_slip(slip, documented.differences, drawn);
+    telling::tell_slip(
+        slip,
+        documented.differences,
+        drawn,
+        documented::said(nothing(), slip),
+    );
 }
 
 // The self-test: the first n slips, one after the other.

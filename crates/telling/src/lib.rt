@@ -80,13 +80,17 @@ fn say_slip(slip: u64) {
     }
 }
 
-// A slip's line, by the differences that it makes in the document's examples and in drawn cases.
-pub fn tell_slip(slip: u64, documented: usize, drawn: usize) {
+// A slip's line, by the differences that it makes in the document's examples and in drawn cases, and by whether it does what the document says of it.
+pub fn tell_slip(slip: u64, documented: usize, drawn: usize, said: Tally) {
     say_slip(slip);
     if documented == 0 {
         say(b": NOT FOUND by the document's examples\n");
     } else if drawn == 0 {
         say(b": NOT FOUND by drawn cases\n");
+    } else if said.differences != 0 {
+        say(b": NOT AS DOCUMENTED\n");
+    } else if said.cases != 0 {
+        say(b": found, as documented\n");
     } else {
         say(b": found\n");
     }
