@@ -5,7 +5,8 @@ use mathlib.Core.Path.{_≡_, refl}
 use Rattle.refusal.specs.declared.Refusal.the-variants.{Cut, Stale, Unclear}
 use Rattle.refusal.specs.Number.{numberOf}
 use Rattle.words.specs.Words.{parts, before-first}
-use Rattle.answers.specs.Line.{bytes, named}
+use Rattle.texts.specs.Text.{bytes}
+use Rattle.answers.specs.Line.{named}
 
 pub none-named : named 0 ≡ []
 unfolding parts before-first

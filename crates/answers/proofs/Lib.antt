@@ -1,4 +1,3 @@
-pub mod Digits
 pub mod Lines
 pub mod Names
 pub mod Examples

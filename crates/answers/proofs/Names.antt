@@ -2,7 +2,7 @@
 -- Assumes nothing.
 use Prim.Native.Nat.{ℕ, zero, suc, _+_, _≤_}
 use mathlib.Core.Bool.{Bool, true, false, false≢true}
-use mathlib.Core.List.{List, [], _∷_}
+use mathlib.Core.List.{List, [], _∷_, _++_}
 use mathlib.Core.Path.{_≡_, refl, ap, subst}
 use native.Mathlib.Omega.{arith}
 use lib.Dec.{leb}
@@ -14,8 +14,9 @@ use Rattle.refusal.specs.declared.Refusal.{Refusal}
 use Rattle.revision.specs.Revision.{age-number, age-distance}
 use Rattle.revision.specs.declared.Age.{Age}
 use Rattle.words.specs.Words.{parts, before-first}
-use Rattle.answers.proofs.Lines.{put-two, put-three, put-spaced}
-use Rattle.answers.specs.Line.{Put, text, names, named, spaced, refused-start, line-end, lineOf}
+use Rattle.texts.proofs.Putting.{put-two, put-spaced}
+use Rattle.texts.specs.Text.{Put, text, spaced, line-end}
+use Rattle.answers.specs.Line.{names, named, refused-start, lineOf}
 use Rattle.answers.specs.declared.Answer.the-variants.{Aged, Refused}
 
 -- ---- no name is longer than 8 bytes, and a number without a name has none
@@ -45,10 +46,10 @@ module _ (m : ℕ) (s t u : List ℕ) (x y : ℕ) (p : Put s t 0 x (refused-star
   pub refused-line : (e : Refusal) → m ≡ numberOf e → Put t u x y line-end → Put s u 0 y (lineOf (Refused e))
   refused-line e f q = put-two s t u 0 x y (refused-start (numberOf e)) line-end (subst (Put s t 0 x) (ap refused-start f) p) q
 
-  pub aged-line : (g : Age) (d : ℕ) (r : List ℕ) (z : ℕ) → m ≡ age-number g → d ≡ age-distance g → Put t u x y (spaced (text d)) → Put u r y z line-end → Put s r 0 z (lineOf (Aged g))
-  aged-line g d r z f e q l =
-      put-three s t u r 0 x y z (refused-start (age-number g)) (spaced (text (age-distance g))) line-end
-      (subst (Put s t 0 x) (ap refused-start f) p) (subst (λ (n : ℕ). Put t u x y (spaced (text n))) e q) l
+  pub aged-line : (g : Age) (d : ℕ) → m ≡ age-number g → d ≡ age-distance g → Put t u x y (spaced (text d) ++ line-end) → Put s u 0 y (lineOf (Aged g))
+  aged-line g d f e q =
+      put-two s t u 0 x y (refused-start (age-number g)) (spaced (text (age-distance g)) ++ line-end)
+      (subst (Put s t 0 x) (ap refused-start f) p) (subst (λ (n : ℕ). Put t u x y (spaced (text n) ++ line-end)) e q)
 
 -- ---- v is the word that a number k names
 

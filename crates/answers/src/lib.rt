@@ -1,10 +1,15 @@
 // Answers, each a line on standard output: `done ..` or `refused N NAME`, with the distance behind it where a base is not current.
 use refusal::Refusal;
 use revision::Age;
+use texts::put;
+use texts::put_last;
+use texts::put_last_pair;
+use texts::put_number;
 ghost use Prim.Native.Nat.{_+_, _≤_};
 ghost use lib.ListN.{length};
 ghost use Rattle.answers.specs.declared.Answer.the-variants.{Word, Accepted, Aged, Refused};
-ghost use Rattle.answers.specs.Line.{Put, text, spaced, named, refused-start, lineOf};
+ghost use Rattle.texts.specs.Text.{Put, Holds, spaced};
+ghost use Rattle.answers.specs.Line.{named, refused-start, lineOf};
 
 // What a command comes to. `Said`: nothing is left to say.
 pub enum Answer {
@@ -16,41 +21,7 @@ pub enum Answer {
     Said,
 }
 
-// Puts text behind the first n bytes of a line.
-fn put(line: &mut [u8], n: usize, text: &[u8]) -> usize
-    requires { ⌜ n + length (now text) ≤ length (now line) ⌝ }
-    ensures { λ x. ⌜ Put (now (line .entry)) (now (line .exit)) n x (now (text .entry)) ⌝ }
-{
-    let mut i: usize = 0;
-    while i < text.len() {
-        line[n + i] = text[i];
-        i += 1;
-    }
-    n + i
-}
-
-// The same with the digits of a number.
-fn put_digits(line: &mut [u8], n: usize, number: u64) -> usize
-    requires { ⌜ n + 20 ≤ length (now line) ⌝ }
-    ensures { λ x. ⌜ Put (now (line .entry)) (now (line .exit)) n x (text number) ⌝ }
-    ensures { λ x. ⌜ x ≤ n + 20 ⌝ }
-{
-    let mut digits = [0u8; 20];
-    let k = io::decimal(number, &mut digits);
-    put(line, n, &digits[..k])
-}
-
-// The same with a space before them.
-fn put_number(line: &mut [u8], n: usize, number: u64) -> usize
-    requires { ⌜ n + 21 ≤ length (now line) ⌝ }
-    ensures { λ x. ⌜ Put (now (line .entry)) (now (line .exit)) n x (spaced (text number)) ⌝ }
-    ensures { λ x. ⌜ x ≤ n + 21 ⌝ }
-{
-    let m = put(line, n, b" ");
-    put_digits(line, m, number)
-}
-
-// The same with the name that has a number: that word of all names.
+// Puts the name that has a number behind the first n bytes of a line, after a space: that word of all names.
 fn put_name(line: &mut [u8], n: usize, number: u64) -> usize
     requires { ⌜ n + 9 ≤ length (now line) ⌝ }
     ensures { λ x. ⌜ Put (now (line .entry)) (now (line .exit)) n x (spaced (named number)) ⌝ }
@@ -88,8 +59,7 @@ fn put_aged(line: &mut [u8], age: Age) -> usize
     ensures { λ x. ⌜ Put (now (line .entry)) (now (line .exit)) 0 x (lineOf (Aged age)) ⌝ }
 {
     let a = put_start(line, age.number());
-    let b = put_number(line, a, age.distance() as u64);
-    put(line, b, b"\n")
+    put_last(line, a, age.distance() as u64)
 }
 
 // The line of a word of wrong parities.
@@ -98,8 +68,7 @@ fn put_word(line: &mut [u8], w: u64) -> usize
     ensures { λ x. ⌜ Put (now (line .entry)) (now (line .exit)) 0 x (lineOf (Word w)) ⌝ }
 {
     let a = put(line, 0, b"done");
-    let b = put_number(line, a, w);
-    put(line, b, b"\n")
+    put_last(line, a, w)
 }
 
 // The line of an accepted write.
@@ -108,16 +77,13 @@ fn put_accepted(line: &mut [u8], revision: u32, count: u64) -> usize
     ensures { λ x. ⌜ Put (now (line .entry)) (now (line .exit)) 0 x (lineOf (Accepted revision count)) ⌝ }
 {
     let a = put(line, 0, b"done");
-    let b = put_number(line, a, revision as u64);
-    let c = put_number(line, b, count);
-    put(line, c, b"\n")
+    put_last_pair(line, a, revision as u64, count)
 }
 
 // The line of an answer.
 fn put_answer(line: &mut [u8], answer: Answer) -> usize
     requires { ⌜ 64 ≤ length (now line) ⌝ }
-    ensures { λ x. ⌜ Put (now (line .entry)) (now (line .exit)) 0 x (lineOf answer) ⌝ }
-    ensures { λ x. ⌜ x ≤ length (now (line .exit)) ⌝ }
+    ensures { λ x. ⌜ Holds (now (line .exit)) x (lineOf answer) ⌝ }
 {
     match answer {
         Answer::Done => put(line, 0, b"done\n"),

@@ -14,17 +14,11 @@ put-start-requires c κs = search needs
 distance-requires : tie.Need-distance-requires
 distance-requires c κs = search needs
 
-cast-put-number : tie.Need-cast-put-number
-cast-put-number c = search needs
+cast-put-last : tie.Need-cast-put-last
+cast-put-last c = search needs
 
-put-number-requires : tie.Need-put-number-requires
-put-number-requires c κs = search needs
-
-slice-aggregate-put : tie.Need-slice-aggregate-put
-slice-aggregate-put c = search needs
-
-put-requires : tie.Need-put-requires
-put-requires c κs = search needs
+put-last-requires : tie.Need-put-last-requires
+put-last-requires c κs = search needs
 
 same-length : tie.Need-same-length
 same-length c = search needs
@@ -39,9 +33,7 @@ put-aged-spec =
     number-requires
     put-start-requires
     distance-requires
-    cast-put-number
-    put-number-requires
-    slice-aggregate-put
-    put-requires
+    cast-put-last
+    put-last-requires
     same-length
     returns)

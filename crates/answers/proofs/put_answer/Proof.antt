@@ -1,8 +1,7 @@
 -- `answers::put_answer` meets its contract.
 -- Assumes nothing.
-use native.Mathlib.Omega.{arith}
 use borrow.Author.Needs.{needs}
-use Rattle.answers.proofs.Lines.{put-within, line-told, put-nothing}
+use Rattle.answers.proofs.Lines.{line-told, nothing-told}
 use Rattle.answers.proofs.put_answer.Statement.{statement}
 use Rattle.answers.proofs.put_answer.Tie as tie
 
@@ -46,34 +45,34 @@ same-length : tie.Need-same-length
 same-length c = search needs
 
 returns : tie.Need-returns
-returns c = (search line-told, search put-within)
+returns c = search line-told
 
 same-length-2 : tie.Need-same-length-2
 same-length-2 c = search needs
 
 returns-2 : tie.Need-returns-2
-returns-2 c = (search line-told, search put-within)
+returns-2 c = search line-told
 
 same-length-3 : tie.Need-same-length-3
 same-length-3 c = search needs
 
 returns-3 : tie.Need-returns-3
-returns-3 c = (search line-told, search put-within)
+returns-3 c = search line-told
 
 same-length-4 : tie.Need-same-length-4
 same-length-4 c = search needs
 
 returns-4 : tie.Need-returns-4
-returns-4 c = (search line-told, search put-within)
+returns-4 c = search line-told
 
 same-length-5 : tie.Need-same-length-5
 same-length-5 c = search needs
 
 returns-5 : tie.Need-returns-5
-returns-5 c = (search line-told, search put-within)
+returns-5 c = search line-told
 
 returns-6 : tie.Need-returns-6
-returns-6 c = (search put-nothing, omega arith)
+returns-6 c = search nothing-told
 
 pub put-answer-spec : {M : Type 1} → statement M
 put-answer-spec =

@@ -1,7 +1,8 @@
 -- `answers::put_start` meets its contract.
 -- Assumes nothing.
 use borrow.Author.Needs.{needs}
-use Rattle.answers.proofs.Lines.{put-three, start-end}
+use Rattle.texts.proofs.Putting.{put-three}
+use Rattle.answers.proofs.Lines.{start-end}
 use Rattle.answers.proofs.put_start.Statement.{statement}
 use Rattle.answers.proofs.put_start.Tie as tie
 

@@ -13,7 +13,7 @@ use borrow.Author.Tests.{le-leb, lt-leb, lt-ltb, le-ltb}
 use Rattle.laws.specs.Choose.{choose}
 use Rattle.laws.specs.Sum.{total}
 use Rattle.io.specs.Digits.{digits, Fewest}
-use Rattle.answers.specs.Line.{places, text}
+use Rattle.texts.specs.Text.{places, text}
 
 -- a count of the numbers below j, among those below m
 all : (m j : ℕ) → m ≤ j → total m (λ i. choose (ltb i j) 1 0) ≡ m

@@ -1,4 +1,4 @@
--- `answers::put` meets its contract.
+-- `texts::put` meets its contract.
 -- Assumes nothing.
 use Prim.Native.Nat.{_+_, _-_, _≤_}
 use mathlib.Core.List.{_++_}
@@ -6,28 +6,27 @@ use mathlib.Core.Path.{_≡_}
 use native.Mathlib.Omega.{arith}
 use lib.ListN.{length, take, length-set}
 use denote.Ref.{now}
-use Rattle.answers.proofs.Lines.{put-none, put-more, put-end}
-use Rattle.answers.proofs.put.Statement.{statement}
-use Rattle.answers.specs.Line.{text}
-use Rattle.answers.proofs.put.Tie as tie
+use Rattle.texts.proofs.Putting.{put-none, put-more, put-end}
+use Rattle.texts.proofs.put.Statement.{statement}
+use Rattle.texts.proofs.put.Tie as tie
 
 abbrev Inv-loop : tie.InvT-loop
-Inv-loop line₀ n text i₀ line i = (i ≤ length text) × (length line ≡ length line₀) × (take (n + i) line ≡ take n line₀ ++ take i text)
+Inv-loop out₀ n text i₀ out i = (i ≤ length text) × (length out ≡ length out₀) × (take (n + i) out ≡ take n out₀ ++ take i text)
 
 abbrev μ-loop : tie.MeasureT-loop
-μ-loop line₀ n text i₀ line i = length text - i
+μ-loop out₀ n text i₀ out i = length text - i
 
 loop-holds : tie.Need-loop-holds Inv-loop μ-loop
-loop-holds c = (omega arith, omega arith, put-none (now (c .args .line)) (now (c .args .text)) (c .args .n))
+loop-holds c = (omega arith, omega arith, put-none (now (c .args .out)) (now (c .args .text)) (c .args .n))
 
-shared-slice-read-line : tie.Need-shared-slice-read-line Inv-loop μ-loop
-shared-slice-read-line c = omega arith
+shared-slice-read-out : tie.Need-shared-slice-read-out Inv-loop μ-loop
+shared-slice-read-out c = omega arith
 
-add-line : tie.Need-add-line Inv-loop μ-loop
-add-line c = omega arith
+add-out : tie.Need-add-out Inv-loop μ-loop
+add-out c = omega arith
 
-slice-write-line : tie.Need-slice-write-line Inv-loop μ-loop
-slice-write-line c = omega arith
+slice-write-out : tie.Need-slice-write-out Inv-loop μ-loop
+slice-write-out c = omega arith
 
 add-i : tie.Need-add-i Inv-loop μ-loop
 add-i c = omega arith
@@ -54,9 +53,9 @@ put-spec =
     Inv-loop
     μ-loop
     loop-holds
-    shared-slice-read-line
-    add-line
-    slice-write-line
+    shared-slice-read-out
+    add-out
+    slice-write-out
     add-i
     loop-less
     loop-again

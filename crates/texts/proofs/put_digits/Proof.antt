@@ -1,11 +1,11 @@
--- `answers::put_digits` meets its contract.
+-- `texts::put_digits` meets its contract.
 -- Assumes nothing.
 use Prim.Native.Nat.{_^_, _<_}
 use native.Mathlib.Omega.{arith}
 use borrow.Author.Needs.{needs}
-use Rattle.answers.proofs.Lines.{digits-put, digits-fit, digits-end}
-use Rattle.answers.proofs.put_digits.Statement.{statement}
-use Rattle.answers.proofs.put_digits.Tie as tie
+use Rattle.texts.proofs.Putting.{digits-put, digits-fit, digits-end}
+use Rattle.texts.proofs.put_digits.Statement.{statement}
+use Rattle.texts.proofs.put_digits.Tie as tie
 
 decimal-requires : tie.Need-decimal-requires
 decimal-requires c κs = search needs

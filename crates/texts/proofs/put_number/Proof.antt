@@ -1,10 +1,10 @@
--- `answers::put_number` meets its contract.
+-- `texts::put_number` meets its contract.
 -- Assumes nothing.
 use native.Mathlib.Omega.{arith}
 use borrow.Author.Needs.{needs}
-use Rattle.answers.proofs.Lines.{put-spaced}
-use Rattle.answers.proofs.put_number.Statement.{statement}
-use Rattle.answers.proofs.put_number.Tie as tie
+use Rattle.texts.proofs.Putting.{put-spaced}
+use Rattle.texts.proofs.put_number.Statement.{statement}
+use Rattle.texts.proofs.put_number.Tie as tie
 
 slice-aggregate-put : tie.Need-slice-aggregate-put
 slice-aggregate-put c = search needs
