@@ -15,7 +15,6 @@ use Rattle.algebra.specs.Divide.{quot, inv, evens, turn, gap}
 use Rattle.algebra.specs.Lane.{D, act}
 use Rattle.algebra.specs.Prime.{odd-prime}
 use Rattle.algebra.specs.Word.{overOf, timesOf, laneOf}
-use Rattle.refusal.specs.declared.Refusal.the-variants.{Column, Width, Many}
 use Rattle.stripe.specs.Examples.{example-image}
 use Rattle.stripe.specs.Params.{checkedOf, admitted-prime, admitted-shape, admitted-strip}
 use Rattle.stripe.specs.Reading.{readOf, withParams, sectionsOf}
@@ -23,7 +22,7 @@ use Rattle.block.specs.Touches.{touch-word}
 use Rattle.pattern.specs.Pattern.{pattern-fits, few-lost, consulted, lost-exponents, present-exponents}
 use Rattle.rebuild.specs.Lost.{whole-data, recovered, consulted-lanes, present-lanes}
 use Rattle.revision.specs.Revision.{distance, judged, renewed}
-use Rattle.write.specs.declared.Written.the-variants.{Accepted, Refused}
+use Rattle.write.specs.Written.{written-numbers}
 use Rattle.present.specs.Present.{present-word, present-moved, present-placed, present-written, present-count}
 use Rattle.away.specs.Away.{awayOf, away-read, away-sound, away-judged, away-written, away-difference}
 
@@ -43,9 +42,9 @@ ninth-image =
     2 ∷ 0 ∷ 1 ∷ 0 ∷ 0 ∷ 0 ∷ 9 ∷ 9 ∷ 9 ∷ 9 ∷
     2 ∷ 0 ∷ 1 ∷ 0 ∷ 1 ∷ 0 ∷ 1 ∷ 1 ∷ 1 ∷ 0 ∷ []
 
-pub ninth-away : awayOf spoiled 2 1 1 7 (0 ∷ []) ≡ record { answer = Accepted 8 6; image = ninth-image }
+pub ninth-away : let l = awayOf spoiled 2 1 1 7 (0 ∷ []) in (written-numbers (l .answer) ≡ 0 ∷ 8 ∷ 6 ∷ 0 ∷ []) × (l .image ≡ ninth-image)
 unfolding awayOf away-read away-sound away-judged away-written away-difference present-written present-placed present-moved present-word present-count whole-data recovered consulted lost-exponents present-exponents consulted-lanes present-lanes pattern-fits few-lost coefficient lane readOf withParams sectionsOf checkedOf admitted-prime admitted-shape admitted-strip odd-prime below judged distance renewed touch-word total weight bit pack overOf timesOf laneOf quot turn gap D act sum pick _⊕_ put patch tab put32 inv evens
-ninth-away = refl
+ninth-away = (refl, refl)
 
 -- P9's write with parity 0 lost: it stays, and the count is that of parity 1
 abbrev parity-lost : List ℕ
@@ -55,19 +54,6 @@ parity-lost =
     2 ∷ 0 ∷ 1 ∷ 0 ∷ 0 ∷ 0 ∷ 0 ∷ 0 ∷ 0 ∷ 0 ∷
     2 ∷ 0 ∷ 3 ∷ 0 ∷ 3 ∷ 2 ∷ 1 ∷ 1 ∷ 1 ∷ 0 ∷ []
 
-pub ninth-parity-away : awayOf example-image 4 1 1 7 (0 ∷ []) ≡ record { answer = Accepted 8 3; image = parity-lost }
+pub ninth-parity-away : let l = awayOf example-image 4 1 1 7 (0 ∷ []) in (written-numbers (l .answer) ≡ 0 ∷ 8 ∷ 3 ∷ 0 ∷ []) × (l .image ≡ parity-lost)
 unfolding awayOf away-read away-sound away-judged away-written away-difference present-written present-placed present-moved present-word present-count whole-data recovered consulted lost-exponents present-exponents consulted-lanes present-lanes pattern-fits few-lost coefficient lane readOf withParams sectionsOf checkedOf admitted-prime admitted-shape admitted-strip odd-prime below judged distance renewed touch-word total weight bit pack overOf timesOf laneOf quot turn gap D act sum pick _⊕_ put patch tab put32 inv evens
-ninth-parity-away = refl
-
--- "pattern bits join COLUMN; MANY stands after WIDTH and before STALE"
-pub order-column : (awayOf example-image 16 1 1 6 []) .answer ≡ Refused Column
-unfolding awayOf away-read away-sound pattern-fits readOf withParams sectionsOf checkedOf admitted-prime admitted-shape admitted-strip odd-prime below
-order-column = refl
-
-pub order-width : (awayOf example-image 7 1 1 6 []) .answer ≡ Refused Width
-unfolding awayOf away-read away-sound pattern-fits readOf withParams sectionsOf checkedOf admitted-prime admitted-shape admitted-strip odd-prime below
-order-width = refl
-
-pub order-many : (awayOf example-image 7 1 1 6 (0 ∷ [])) .answer ≡ Refused Many
-unfolding awayOf away-read away-sound pattern-fits few-lost weight bit readOf withParams sectionsOf checkedOf admitted-prime admitted-shape admitted-strip odd-prime below
-order-many = refl
+ninth-parity-away = (refl, refl)

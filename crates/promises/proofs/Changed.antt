@@ -17,8 +17,9 @@ use Rattle.laws.specs.Bit.{weight, bit}
 use Rattle.laws.specs.Choose.{choose, below}
 use Rattle.laws.specs.Sum.{total, pick}
 use Rattle.laws.specs.Xor.{_⊕_}
-use Rattle.stripe.specs.Layout.{rows, data-count-at, parity-byte, data-byte}
-use Rattle.stripe.specs.Reading.{Image}
+use Rattle.stripe.specs.Layout.{rows, parity-byte, data-byte}
+use Rattle.stripe.specs.Reading.{Image, readOf}
+use Rattle.stripe.specs.declared.Reading.the-variants.{Stripe}
 use Rattle.stripe.specs.declared.Params.{Params}
 use Rattle.block.specs.Parity.{Right, due}
 use Rattle.block.specs.Touches.{touches, touch-word, count}
@@ -29,9 +30,9 @@ use Rattle.write.specs.Written.{written, difference}
 use Rattle.store.proofs.Lists.{shuffled-refl}
 use Rattle.store.specs.Image.{image-last}
 use Rattle.store.specs.Store.{Write, Entry}
-use Rattle.promises.proofs.Demand3.{demand-3-by}
+use Rattle.promises.proofs.Demand3.{demand-3}
 use Rattle.promises.specs.Changed.{strip-changed, strips-changed}
-use Rattle.promises.specs.Demand3.{Demand-3, left}
+use Rattle.promises.specs.Demand3.{Revision-bytes, Demand-3, left}
 
 total-ext : (n : ℕ) (f g : ℕ → ℕ) → ((i : ℕ) → i < n → f i ≡ g i) → total n f ≡ total n g
 unfolding total
@@ -88,13 +89,13 @@ module _ (s after : List ℕ) (q : Params) (w d : ℕ → ℕ)
       total-ext (q .r) (λ j. total (rows q) (λ u. strip-changed s after q j u)) (λ j. weight (w j) (rows q))
       (λ j hj. total-ext (rows q) (λ u. strip-changed s after q j u) (bit (w j)) (λ u hu. changed-is j u hj hu) ∙ sym (weight-total (w j) (rows q)))
 
--- "If the difference isn't all zero, it is also the number of parity strips that changed."
+-- an accepted write
 pub count-changed : (s : List ℕ) (q : Params) (i t b : ℕ) (v : List ℕ) → Image s q → i < q .k → t < rows q → length v ≡ q .b
     → (x : ℕ) → x < q .b → difference s q i t v x ≢ 0 → strips-changed s (written s q i t b v) q ≡ count q i t
 unfolding count touches
 count-changed s q i t b v I hi ht hv = changed-by s (written s q i t b v) q (touch-word q i t) (difference s q i t v) (written-parity s q i t b v I hi ht hv)
 
--- the same while columns are lost: "The count covers present parity strips only"
+-- the same while columns are lost
 pub away-changed : (s : List ℕ) (q : Params) (m i t b : ℕ) (v : List ℕ) → Image s q → i < q .k → t < rows q → length v ≡ q .b
     → (x : ℕ) → x < q .b → away-difference s q m i t v x ≢ 0 → strips-changed s (away-written s q m i t b v) q ≡ present-count q m i t
 unfolding present-count away-written
@@ -107,11 +108,10 @@ away-changed s q m i t b v I hi ht hv =
 abbrev alone : Write → List Entry
 alone w = record { number = 0; write = w } ∷ []
 
-one-write : (s : List ℕ) (q : Params) → Image s q → ((o : ℕ) → o < data-count-at q → getD s o 0 < 256) → (w : Write) → Demand-3 s q (alone w) (alone w)
-one-write s q i b w = demand-3-by s q i b (alone w) (alone w) (record { same-writes = shuffled-refl (alone w); order-kept = λ c t h. refl })
+one-write : (s : List ℕ) (q : Params) → readOf s ≡ Stripe q → Revision-bytes s q → (w : Write) → Demand-3 s q (alone w) (alone w)
+one-write s q i b w = demand-3 s q i b (alone w) (alone w) (record { same-writes = shuffled-refl (alone w); order-kept = λ c t h. refl })
 
--- the revisions are made of bytes, whatever the strips are made of
-module _ (s : List ℕ) (q : Params) (i : Image s q) (b : (o : ℕ) → o < data-count-at q → getD s o 0 < 256) (w : Write) where
+module _ (s : List ℕ) (q : Params) (i : readOf s ≡ Stripe q) (b : Revision-bytes s q) (w : Write) where
   -- an accepted write on a right image leaves a right image
   pub write-keeps-right : Right s q → Right (left s w) q
   unfolding image-last

@@ -13,6 +13,7 @@ use Rattle.laws.proofs.Rows.{row-in}
 use Rattle.stripe.specs.Layout.{rows, revision-at, data-count-at, data-from, strip-at, parity-count-at, parity-from, parity-strip-at, image-length, revisionOf, data-byte, parity-byte}
 use Rattle.stripe.specs.Params.{Admitted}
 use Rattle.stripe.specs.declared.Params.{Params}
+use Rattle.promises.specs.Demand3.{Revision-bytes}
 
 -- a place among c columns of n rows of b bytes
 pub record Cell (c n b y : ℕ) : Type 0 where
@@ -130,11 +131,14 @@ images-same s u q a ls lu hs hu head first second revised strips parities =
     go o (at-parity-count h l) = second o h l
     go o (at-parity j t x hj ht hx e) = rw e (parities j t x hj ht hx)
 
-pub revision-lt : (s : List ℕ) (i : ℕ) → Small s i → revisionOf s i < 2 ^ 32
+revision-lt : (s : List ℕ) (i : ℕ) → Small s i → revisionOf s i < 2 ^ 32
 revision-lt s i h =
     let z : revision-at i + 0 ≡ revision-at i = omega arith in
     let y : revision-at i + 3 ≡ revision-at i + 2 + 1 = omega arith in
     omega (arith, subst (λ (k : ℕ). getD s k 0 < 256) z (h 0 (omega arith)), h 1 (omega arith), h 2 (omega arith), subst (λ (k : ℕ). getD s k 0 < 256) y (h 3 (omega arith)))
 
-pub bytes-revision : (s : List ℕ) (i : ℕ) → ((o : ℕ) → getD s o 0 < 256) → revisionOf s i < 2 ^ 32
-bytes-revision s i b = revision-lt s i (λ m l. b (revision-at i + m))
+pub small-at : (s : List ℕ) (q : Params) → Revision-bytes s q → (i : ℕ) → i < q .k → Small s i
+small-at s q b i h m l = b (revision-at i + m) (omega arith) (omega arith)
+
+pub bytes-revision : (s : List ℕ) (q : Params) → Revision-bytes s q → (i : ℕ) → i < q .k → revisionOf s i < 2 ^ 32
+bytes-revision s q b i h = revision-lt s i (small-at s q b i h)

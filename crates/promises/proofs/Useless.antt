@@ -1,14 +1,16 @@
--- "Five useless programs must not meet it": each breaks its contract, or demand 3, at an input that is written down. I is the image of document 01.
+-- "Five useless programs must not meet it": each breaks the rules that document 01 names for it, on the image I and the writes of P9 and P10.
 -- Assumes nothing.
-use Prim.Native.Nat.{ℕ}
+use Prim.Native.Nat.{ℕ, _<_, _^_}
 use mathlib.Core.List.{List, [], _∷_}
-use mathlib.Core.Path.{_≡_, ap, _∙_, sym, refl}
+use mathlib.Core.Logic.{_≢_}
+use mathlib.Core.Path.{_≡_, ap, _∙_, sym, refl, subst}
 use native.Mathlib.Omega.{arith}
+use lib.Dec.{ltb, ltb→lt}
 use lib.ListN.{getD, replicate}
+use Rattle.laws.proofs.Choose.{below-at}
 use Rattle.laws.specs.Bit.{weight, bit, pack}
 use Rattle.laws.specs.Choose.{below}
-use Rattle.laws.specs.Left.{Left, Leaves}
-use Rattle.laws.specs.Number.{put32}
+use Rattle.laws.specs.Left.{Left}
 use Rattle.laws.specs.Part.{put, tab}
 use Rattle.laws.specs.Patch.{patch}
 use Rattle.laws.specs.Sum.{total, sum, pick}
@@ -18,81 +20,145 @@ use Rattle.algebra.specs.Divide.{quot, turn, gap, inv, evens}
 use Rattle.algebra.specs.Lane.{D, act}
 use Rattle.algebra.specs.Prime.{odd-prime}
 use Rattle.algebra.specs.Word.{overOf, timesOf, laneOf}
-use Rattle.refusal.specs.declared.Refusal.{Refusal}
-use Rattle.stripe.specs.Examples.{example-image}
+use Rattle.stripe.specs.Examples.{example-image, example-params}
+use Rattle.stripe.specs.Layout.{data-count-at, revisionOf, parity-byte}
 use Rattle.stripe.specs.Params.{checkedOf, admitted-prime, admitted-shape, admitted-strip}
 use Rattle.stripe.specs.Reading.{readOf, withParams, sectionsOf}
-use Rattle.block.specs.Parity.{due}
-use Rattle.block.specs.Touches.{touches, touch-word, count}
-use Rattle.write.proofs.Examples.{ninth, tenth}
-use Rattle.revision.specs.Revision.{judged, distance, renewed, age-distance}
-use Rattle.revision.specs.declared.Age.{Age}
-use Rattle.revision.specs.declared.Age.the-variants.{Older}
-use Rattle.write.specs.Written.{writeOf, write-read, write-sound, write-judged, written, moved, difference, written-distance}
-use Rattle.refusal.specs.declared.Outcome.{Outcome}
-use Rattle.write.specs.declared.Written.{Written}
-use Rattle.write.specs.declared.Written.the-variants.{Accepted, Aged, Refused}
-use Rattle.rebuild.specs.Answer.{rebuildOf, rebuild-read}
+use Rattle.stripe.specs.declared.Params.{Params}
+use Rattle.stripe.specs.declared.Reading.the-variants.{Stripe}
+use Rattle.block.specs.Parity.{due, Right}
+use Rattle.block.specs.Touches.{touch-word, count}
+use Rattle.parity.proofs.Rightness.{check-none}
+use Rattle.parity.specs.Answer.{wrong-parities, parity-right}
 use Rattle.pattern.specs.Pattern.{pattern-fits, few-lost, consulted, lost-exponents, present-exponents}
+use Rattle.rebuild.proofs.Independent.{rebuilt-keeps}
+use Rattle.rebuild.specs.Agrees.{AgreesOutside}
 use Rattle.rebuild.specs.Lost.{rebuilt, whole-data, whole-parity, recovered, consulted-lanes, present-lanes}
-use Rattle.store.specs.Image.{image-last}
-use Rattle.store.specs.Store.{Write, Entry}
-use Rattle.promises.specs.Demand3.{last-image, left}
+use Rattle.refusal.specs.declared.Outcome.{Outcome}
+use Rattle.revision.specs.Revision.{renewed, Behind}
+use Rattle.store.specs.Image.{image-log, image-last}
+use Rattle.store.specs.Store.{Write, Entry, later, last-accepted, byte-of}
+use Rattle.promises.proofs.Accepted.{reads-image}
+use Rattle.promises.proofs.Away.{agrees-sym}
+use Rattle.promises.specs.Demand2.{Pattern}
+use Rattle.promises.specs.Demand3.{Answer, Revision-bytes, Sound, Current}
+use Rattle.promises.specs.Useful.{Refuses-exactly, Puts-new-bytes, Sets-revision, last-byte, Holds-last-writes, Holds-last-parity, Counts-pairs, Tells-distance, Rebuilds}
 
--- the write of P9: column 1, row 1, base 7, strip 00
-abbrev ninth-write : Write
-ninth-write = record { column = 1; row = 1; base = 7; strip = 0 ∷ [] }
+-- ---- I and the writes
 
-answer-nine : (writeOf example-image 1 1 7 (0 ∷ [])) .answer ≡ Accepted 8 6
-answer-nine = ap (λ (l : Left Written). l .answer) ninth
+abbrev I : List ℕ
+I = example-image
 
--- one that refuses all writes, by name or by age
-pub refuses-all : (e : Refusal) (u : List ℕ) → Leaves (writeOf example-image 1 1 7 (0 ∷ [])) (Refused e) u → ⊥
-refuses-all e u h =
-    let a : Refused e ≡ Accepted 8 6 = h .answered ∙ answer-nine in
-    let z : _≡_ {A = ℕ} 0 1 = cc in omega arith
+abbrev Q : Params
+Q = example-params
 
-pub ages-all : (g : Age) (u : List ℕ) → Leaves (writeOf example-image 1 1 7 (0 ∷ [])) (Aged g) u → ⊥
-ages-all g u h =
-    let a : Aged g ≡ Accepted 8 6 = h .answered ∙ answer-nine in
-    let z : _≡_ {A = ℕ} 0 1 = cc in omega arith
+I-reads : readOf I ≡ Stripe Q
+unfolding readOf withParams sectionsOf checkedOf admitted-prime admitted-shape admitted-strip odd-prime below
+I-reads = refl
 
--- one that always answers alike: P9 is accepted, P10 is refused
-pub answers-alike : (a : Written) (u v : List ℕ) → Leaves (writeOf example-image 1 1 7 (0 ∷ [])) a u → Leaves (writeOf example-image 1 1 6 (0 ∷ [])) a v → ⊥
-answers-alike a u v h k =
-    let b : a ≡ Accepted 8 6 = h .answered ∙ answer-nine in
-    let c : a ≡ Aged (Older 1) = k .answered ∙ ap (λ (l : Left Written). l .answer) tenth in
-    let z : _≡_ {A = ℕ} 0 1 = cc in omega arith
+I-bytes : Revision-bytes I Q
+unfolding below
+I-bytes o l h = ltb→lt (getD I o 0) 256 (below-at (λ o. ltb (getD I o 0) 256) (data-count-at Q) tt o h)
 
--- one that does nothing: byte 27 of I is 2, and of what P9 leaves 0
-pub does-nothing : (a : Written) → Leaves (writeOf example-image 1 1 7 (0 ∷ [])) a example-image → ⊥
-does-nothing a h =
-    let z : _≡_ {A = ℕ} 2 0 = ap (λ (l : List ℕ). getD l 27 0) (h .left) ∙ ap (λ (l : Left Written). getD (l .image) 27 0) ninth in omega arith
+I-right : Right I Q
+unfolding wrong-parities parity-right due lane coefficient D act quot turn gap inv evens bit weight pack sum pick _⊕_ below
+I-right = check-none I Q (reads-image I Q I-reads) .0 refl
 
--- one that obeys only its first write: after P9 and a write of 05 to row 0, byte 26 is 5, and after P9 alone 0
-abbrev first-entry : Entry
-first-entry = record { number = 0; write = ninth-write }
+-- a write of 00 to column 1, row 1, against a base: P9 with 7, P10 with 6
+abbrev writing : ℕ → Write
+writing base = record { column = 1; row = 1; base = base; strip = 0 ∷ [] }
 
-abbrev second-entry : Entry
-second-entry = record { number = 1; write = record { column = 1; row = 0; base = 8; strip = 5 ∷ [] } }
+writing-sound : (base : ℕ) → base < 2 ^ 32 → Sound Q (writing base)
+writing-sound base h = record { column-in = omega arith; row-in = omega arith; width-due = refl; base-in = h }
 
-two-written : getD (last-image example-image (first-entry ∷ second-entry ∷ [])) 26 0 ≡ 5
-unfolding image-last writeOf write-read write-sound write-judged written moved difference readOf withParams sectionsOf checkedOf admitted-prime admitted-shape admitted-strip odd-prime below judged distance renewed touches touch-word count total weight bit pack overOf timesOf laneOf quot turn gap D act sum pick _⊕_ put patch tab put32 inv evens
-two-written = refl
+ninth-current : Current I Q (writing 7)
+ninth-current = record { reads = I-reads; bytes = I-bytes; sound = writing-sound 7 (omega arith); base = refl }
 
-pub obeys-first-only : last-image example-image (first-entry ∷ second-entry ∷ []) ≡ left example-image ninth-write → ⊥
-obeys-first-only e =
-    let z : _≡_ {A = ℕ} 5 0 = sym two-written ∙ ap (λ (l : List ℕ). getD l 26 0) e ∙ ap (λ (l : Left Written). getD (l .image) 26 0) ninth in omega arith
+-- ---- the programs, by what they answer and what they leave
 
--- one that invents the count
-pub invents-count : (n c : ℕ) (u : List ℕ) → Leaves (writeOf example-image 1 1 7 (0 ∷ [])) (Accepted n c) u → c ≡ 6
-invents-count n c u h = let a : Accepted n c ≡ Accepted 8 6 = h .answered ∙ answer-nine in cc
+module _ (told : List ℕ → Write → Answer) (left : List ℕ → Write → List ℕ) where
+  -- "One that refuses all writes, and one that always answers alike, break demand 3's exact refusal rule."
+  pub refuses-all : ((s : List ℕ) (w : Write) → told s w .refusal ≢ 0) → Refuses-exactly told left → ⊥
+  refuses-all never rule = never I (writing 7) (rule I Q (writing 7) I-reads I-bytes (writing-sound 7 (omega arith)) .1 refl)
 
--- one that invents the distance: P10 is behind by 1
-pub invents-distance : (g : Age) (u : List ℕ) → Leaves (writeOf example-image 1 1 6 (0 ∷ [])) (Aged g) u → age-distance g ≡ 1
-invents-distance g u h = let a : Aged g ≡ Aged (Older 1) = h .answered ∙ ap (λ (l : Left Written). l .answer) tenth in ap written-distance a
+  pub answers-alike : (a : Answer) → ((s : List ℕ) (w : Write) → told s w ≡ a) → Refuses-exactly told left → ⊥
+  answers-alike a always rule =
+      let nine : told I (writing 7) .refusal ≡ 0 = rule I Q (writing 7) I-reads I-bytes (writing-sound 7 (omega arith)) .1 refl in
+      let ten : told I (writing 6) .refusal ≡ 0 = ap (λ (x : Answer). x .refusal) (always I (writing 6) ∙ sym (always I (writing 7))) ∙ nine in
+      let z : _≡_ {A = ℕ} 7 6 = rule I Q (writing 6) I-reads I-bytes (writing-sound 6 (omega arith)) .0 ten in omega arith
 
--- a rebuild that does nothing: I with its data columns cleared comes back, so byte 22 is 1 again
-pub rebuilds-nothing : (x : Outcome) → Leaves (rebuildOf (put example-image 22 (replicate 8 0)) 3) x (put example-image 22 (replicate 8 0)) → ⊥
-unfolding put rebuildOf rebuild-read pattern-fits few-lost rebuilt patch tab whole-data whole-parity recovered consulted lost-exponents present-exponents consulted-lanes present-lanes due lane coefficient D act quot turn gap inv evens bit weight sum pick _⊕_ readOf withParams sectionsOf checkedOf admitted-prime admitted-shape admitted-strip odd-prime below
-rebuilds-nothing x h = let z : _≡_ {A = ℕ} 0 1 = ap (λ (l : List ℕ). getD l 22 0) (h .left) in omega arith
+  -- "One that does nothing breaks the new bytes and revision above": each of them
+  module _ (nothing : (s : List ℕ) (w : Write) → left s w ≡ s) where
+    pub does-nothing-to-bytes : Puts-new-bytes told left → ⊥
+    does-nothing-to-bytes rule =
+        let z : _≡_ {A = ℕ} 2 0 = ap (λ (l : List ℕ). getD l 27 0) (sym (nothing I (writing 7))) ∙ rule I Q (writing 7) ninth-current 0 (omega arith) in omega arith
+
+    pub does-nothing-to-revision : Sets-revision told left → ⊥
+    unfolding renewed
+    does-nothing-to-revision rule =
+        let z : _≡_ {A = ℕ} 7 8 = ap (λ (l : List ℕ). revisionOf l 1) (sym (nothing I (writing 7))) ∙ rule I Q (writing 7) ninth-current in omega arith
+
+  -- "One that obeys only its first write breaks demand 3's last state": it accepts P9's write, then one of 05 to row 0 of that column, and leaves what the
+  -- first left
+  abbrev first : Entry
+  first = record { number = 0; write = writing 7 }
+
+  abbrev second : Entry
+  second = record { number = 1; write = record { column = 1; row = 0; base = 8; strip = 5 ∷ [] } }
+
+  module _ (accepts-first : told I (first .write) .refusal ≡ 0) (accepts-second : told (left I (first .write)) (second .write) .refusal ≡ 0)
+      (obeys-first : left (left I (first .write)) (second .write) ≡ left I (first .write)) where
+    -- "the bytes of the last accepted write in each data strip"
+    pub obeys-first-only : Holds-last-writes told left → ⊥
+    unfolding image-last image-log last-accepted later byte-of
+    obeys-first-only rule =
+        let one = rule I Q (first ∷ []) I-reads I-bytes 1 0 0 (omega arith) (omega arith) (omega arith) in
+        let two = rule I Q (first ∷ second ∷ []) I-reads I-bytes 1 0 0 (omega arith) (omega arith) (omega arith) in
+        let z : _≡_ {A = ℕ} 0 5 = sym (rw accepts-first at one) ∙ ap (λ (l : List ℕ). getD l 26 0) (sym obeys-first) ∙ (rw (accepts-first, accepts-second) at two) in omega arith
+
+    -- "and parity by demand 2's definition"
+    pub obeys-first-only-in-parity : Holds-last-parity told left → ⊥
+    unfolding image-last image-log last-accepted later byte-of due lane coefficient D act quot turn gap inv evens bit sum pick _⊕_
+    obeys-first-only-in-parity rule =
+        let one = rule I Q (first ∷ []) I-reads I-bytes I-right 0 2 0 (omega arith) (omega arith) (omega arith) in
+        let two = rule I Q (first ∷ second ∷ []) I-reads I-bytes I-right 0 2 0 (omega arith) (omega arith) (omega arith) in
+        let z : _≡_ {A = ℕ} 1 4 = sym (rw accepts-first at one) ∙ ap (λ (l : List ℕ). parity-byte l Q 0 2 0) (sym obeys-first) ∙ (rw (accepts-first, accepts-second) at two) in omega arith
+
+  -- "One that invents the count breaks the pairs (j, q)": P9's strip touches 6
+  pub invents-count : told I (writing 7) .count ≢ 6 → Counts-pairs told left → ⊥
+  unfolding count total weight touch-word overOf timesOf laneOf pack quot turn gap inv evens D act bit sum pick _⊕_
+  invents-count other rule = other (rule I Q (writing 7) ninth-current)
+
+  -- request 2: one that invents the distance; P10 is behind by 1
+  pub invents-distance : told I (writing 6) .refusal ≡ 10 → told I (writing 6) .distance ≢ 1 → Tells-distance told left → ⊥
+  invents-distance stale other rule =
+      let b : Behind 7 6 (told I (writing 6) .distance) = rule I Q (writing 6) I-reads I-bytes (omega arith) .stale stale in
+      other (omega (arith, b .some, b .most, b .renewals))
+
+-- ---- "and demand 2 for rebuild"
+
+-- I with its data columns cleared
+abbrev cleared : List ℕ
+cleared = put I 22 (replicate 8 0)
+
+cleared-reads : readOf cleared ≡ Stripe Q
+unfolding put readOf withParams sectionsOf checkedOf admitted-prime admitted-shape admitted-strip odd-prime below
+cleared-reads = refl
+
+cleared-rebuilt : rebuilt cleared Q 3 ≡ I
+unfolding put rebuilt patch tab whole-data whole-parity recovered consulted lost-exponents present-exponents consulted-lanes present-lanes due lane coefficient D act quot turn gap inv evens bit weight sum pick _⊕_
+cleared-rebuilt = refl
+
+cleared-agrees : AgreesOutside I cleared Q 3
+cleared-agrees =
+    agrees-sym cleared I Q 3 (subst (λ (l : List ℕ). AgreesOutside cleared l Q 3) cleared-rebuilt (rebuilt-keeps cleared Q 3 (reads-image cleared Q cleared-reads)))
+
+both-lost : Pattern Q 3
+unfolding pattern-fits few-lost weight bit
+both-lost = record { fits = tt; few = tt }
+
+-- a rebuild that does nothing: byte 22 stays 0, and is 1 in I
+pub rebuilds-nothing : (f : List ℕ → ℕ → Left Outcome) → ((s : List ℕ) (m : ℕ) → f s m .image ≡ s) → Rebuilds f → ⊥
+unfolding put
+rebuilds-nothing f nothing rule =
+    let z : _≡_ {A = ℕ} 0 1 = ap (λ (l : List ℕ). getD l 22 0) (sym (nothing cleared 3) ∙ rule I cleared Q 3 I-reads I-right both-lost cleared-agrees .left) in omega arith

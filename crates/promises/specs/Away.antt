@@ -5,25 +5,23 @@
 use Prim.Native.Nat.{ℕ, _<_}
 use mathlib.Core.Path.{_≡_}
 use mathlib.Core.List.{List}
-use mathlib.Core.Logic.{_↔_}
-use lib.Dec.{T}
 use Rattle.laws.specs.Choose.{choose}
 use Rattle.laws.specs.Left.{Left}
 use Rattle.stripe.specs.declared.Params.{Params}
-use Rattle.stripe.specs.Layout.{rows, revisionOf, data-byte}
-use Rattle.stripe.specs.Reading.{Image}
+use Rattle.stripe.specs.declared.Reading.the-variants.{Stripe}
+use Rattle.stripe.specs.Layout.{rows, data-byte}
+use Rattle.stripe.specs.Reading.{readOf}
 use Rattle.store.specs.Lists.{Shuffled}
 use Rattle.store.specs.Store.{Write, Entry, Logged, Once, under, last-accepted, byte-of}
 use Rattle.store.specs.Image.{image-log, image-last}
 use Rattle.block.specs.Parity.{Right}
-use Rattle.pattern.specs.Pattern.{pattern-fits, few-lost}
 use Rattle.rebuild.specs.Agrees.{AgreesOutside}
 use Rattle.rebuild.specs.Lost.{rebuilt}
 use Rattle.write.specs.declared.Written.{Written}
 use Rattle.present.specs.Present.{present-count}
 use Rattle.away.specs.Away.{awayOf}
 use Rattle.away.specs.Stays.{Stays}
-use Rattle.promises.specs.Demand3.{Answer, answer-of, is-accepted, told, left, Bytes, Sound}
+use Rattle.promises.specs.Demand3.{Answer, answer-of, is-accepted, told, left, Revision-bytes, Each-refused-exactly}
 
 -- one write with the pattern m on an image: what the contract of `away::write` says it leaves
 abbrev pub write-away : ℕ → List ℕ → Write → Left Written
@@ -42,14 +40,9 @@ answers-away m = image-log (told-away m) (left-away m)
 abbrev pub last-away : ℕ → List ℕ → List Entry → List ℕ
 last-away m = image-last (told-away m) (left-away m)
 
--- "one sound pattern": no bit at k+r or above, and at most r columns lost
-pub record Pattern (q : Params) (m : ℕ) : Type 0 where
-  pub fits : T (pattern-fits q m)
-  pub few : T (few-lost q m)
-
 -- z is a right image that agrees with all present columns of s, and has its revisions
 pub record Complete (z s : List ℕ) (q : Params) (m : ℕ) : Type 0 where
-  pub accepted : Image z q
+  pub accepted : readOf z ≡ Stripe q
   pub right : Right z q
   pub agrees : AgreesOutside z s q m
 
@@ -88,7 +81,8 @@ pub record Demand-3-away (s : List ℕ) (q : Params) (m : ℕ) (es fs : List Ent
   -- "the final images are equal", in lost columns too: these stay
   pub same-image : last-away m s es ≡ last-away m s fs
   pub stays : Stays s (last-away m s es) q m
-  pub still-accepted : Image (last-away m s es) q
+  pub still-accepted : readOf (last-away m s es) ≡ Stripe q
+  pub still-bytes : Revision-bytes (last-away m s es) q
   -- the premise holds again, so that a list may follow
   pub still-completed : Completed (last-away m s es) q m
   -- "each data strip holds its last accepted write or its old bytes", "read on the image that demand 2's rebuild then gives"
@@ -96,5 +90,6 @@ pub record Demand-3-away (s : List ℕ) (q : Params) (m : ℕ) (es fs : List Ent
       → data-byte (rebuilt (last-away m s es) q m) q i t x ≡ byte-of (last-accepted is-accepted i t (answers-away m s es)) (data-byte (rebuilt s q m) q i t x) x
   -- "right parity stays right"
   pub right-stays : Right (rebuilt (last-away m s es) q m) q
-  -- "a sound write is refused exactly when its revision isn't current", at every point
-  pub refused-exactly : (u : List ℕ) (w : Write) → Image u q → Bytes u → Sound q w → (told-away m u w .refusal ≡ 0) ↔ (revisionOf u (w .column) ≡ w .base)
+  -- "a sound write is refused exactly when its revision isn't current": each write of either list, at the image that it meets
+  pub refused-exactly : Each-refused-exactly (told-away m) (left-away m) s q es
+  pub refused-exactly-too : Each-refused-exactly (told-away m) (left-away m) s q fs

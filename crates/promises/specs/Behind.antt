@@ -9,8 +9,7 @@ use lib.Dec.{eqb}
 use lib.ListN.{length}
 use Rattle.refusal.specs.declared.Refusal.the-variants.{Stale}
 use Rattle.refusal.specs.Number.{numberOf}
-use Rattle.revision.specs.declared.Age.the-variants.{Older}
-use Rattle.revision.specs.Revision.{judged, Distance-told}
+use Rattle.revision.specs.Revision.{judged, age-number, age-distance, Distance-told}
 use Rattle.stripe.specs.declared.Params.{Params}
 use Rattle.stripe.specs.Layout.{revisionOf}
 use Rattle.store.specs.Lists.{keep}
@@ -36,7 +35,8 @@ notes-behind n = record { refusal = numberOf Stale; revision = 0; count = 0; dis
 
 -- n writes to column i were accepted since the base b was current; s is the image by now, and `told` gives a call's answers
 pub record Three-notes-behind (told : List ℕ → Write → Answer) (s : List ℕ) (q : Params) (i b n : ℕ) : Type 0 where
-  -- the base is judged older by n
-  pub older : judged (revisionOf s i) b ≡ Older n
+  -- the base is judged older, by n
+  pub older : age-number (judged (revisionOf s i) b) ≡ numberOf Stale
+  pub by : age-distance (judged (revisionOf s i) b) ≡ n
   -- and a sound write against it gets this answer
   pub answered : (w : Write) → Sound q w → w .column ≡ i → w .base ≡ b → told s w ≡ notes-behind n

@@ -12,8 +12,7 @@ use Rattle.ring.specs.Answer.{divide-answer, element-value}
 use Rattle.stripe.specs.Examples.{example-image}
 use Rattle.refusal.specs.declared.Outcome.{Outcome}
 use Rattle.parity.specs.Answer.{makeOf, checkOf, outcome-number, checkup-number, checkup-value}
-use Rattle.write.specs.declared.Written.{Written}
-use Rattle.write.specs.Written.{writeOf, written-number, written-revision, written-count, written-distance}
+use Rattle.write.specs.Written.{writeOf, written-numbers}
 use Rattle.rebuild.specs.Answer.{rebuildOf}
 
 pub record Row : Type 0 where
@@ -36,9 +35,7 @@ rebuilding s m = outcome-number ((rebuildOf s m) .answer) ∷ (rebuildOf s m) .i
 
 -- write at row 1 of an image with strip 00: the number, the new revision, the count, and request 2's distance
 abbrev writing : List ℕ → ℕ → ℕ → List ℕ
-writing s column base =
-    let answer : Written = writeOf s column 1 base (0 ∷ []) .answer in
-    written-number answer ∷ written-revision answer ∷ written-count answer ∷ written-distance answer ∷ []
+writing s column base = written-numbers (writeOf s column 1 base (0 ∷ []) .answer)
 
 unfoldable pub bench : List Row
 bench =

@@ -5,4 +5,5 @@ pub mod Last
 pub mod Shuffle
 pub mod Order
 pub mod Arrange
+pub mod Split
 pub mod Carry

@@ -2,11 +2,13 @@
 -- Assumes nothing.
 use Prim.Native.Nat.{ℕ, _+_, _≤_}
 use mathlib.Core.Bool.{Bool, _&&_}
+use mathlib.Core.List.{List, [], _∷_}
 use lib.Dec.{T, leb}
 use Rattle.laws.specs.Choose.{choose}
 use Rattle.algebra.specs.Prime.{odd-prime}
 use Rattle.refusal.specs.declared.Refusal.{Refusal}
 use Rattle.refusal.specs.declared.Refusal.the-variants.{Prime, Shape, Strip}
+use Rattle.refusal.specs.Number.{numberOf}
 use Rattle.stripe.specs.declared.Params.{Params}
 use Rattle.stripe.specs.declared.Checked.{Checked}
 use Rattle.stripe.specs.declared.Checked.the-variants.{Sound, Refused}
@@ -31,6 +33,15 @@ checkedOf p k r b =
     (choose (admitted-strip b) (Sound (record { p = p; k = k; r = r; b = b })) (Refused Strip))
     (Refused Shape))
     (Refused Prime)
+
+-- "A refusal carries its number; every number beside it is 0": the number of an answer, and its values p, k, r, B
+abbrev pub checked-number : Checked → ℕ
+checked-number (Sound q) = 0
+checked-number (Refused e) = numberOf e
+
+abbrev pub checked-values : Checked → List ℕ
+checked-values (Sound q) = q .p ∷ q .k ∷ q .r ∷ q .b ∷ []
+checked-values (Refused e) = 0 ∷ 0 ∷ 0 ∷ 0 ∷ []
 
 -- what is known of parameters that were found sound
 pub record Admitted (q : Params) : Type 0 where

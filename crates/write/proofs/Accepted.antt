@@ -213,11 +213,11 @@ module _ (s : List ℕ) (q : Params) (i t b : ℕ) (v : List ℕ) (I : Image s q
       (λ o g l. front o (omega arith) (⊎-elim (λ c. inl (omega arith)) (λ c. inr (omega arith)) (revisions-apart i′ i n)))
 
   -- the bytes of revisions stay bytes, whatever the strip is made of
-  pub written-small : ((o : ℕ) → o < data-count-at q → getD s o 0 < 256) → (o : ℕ) → o < data-count-at q → getD (written s q i t b v) o 0 < 256
-  written-small hs o h = go (place (revision-at i) 4 o)
+  pub written-small : (o : ℕ) → o < data-count-at q → getD s o 0 < 256 → getD (written s q i t b v) o 0 < 256
+  written-small o h small = go (place (revision-at i) 4 o)
     where
       other : (o < revision-at i) ⊎ (revision-at i + 4 ≤ o) → getD (written s q i t b v) o 0 < 256
-      other k = subst (λ (x : ℕ). x < 256) (sym (front o (omega arith) k)) (hs o h)
+      other k = subst (λ (x : ℕ). x < 256) (sym (front o (omega arith) k)) small
 
       go : Place (revision-at i) 4 o → getD (written s q i t b v) o 0 < 256
       go (before l) = other (inl l)
