@@ -35,11 +35,12 @@ lines (suc n) line = lines n line ++ line n
 unfoldable pub data-line : List ℕ → ℕ → List ℕ
 data-line s i = bytes "data" ++ (spaced (text i) ++ (spaced (text (revisionOf s i)) ++ line-end))
 
--- "each parity number with `right` or `wrong`", as `parity 0 right`
+-- "`right` or `wrong`"
 abbrev pub verdict : Bool → List ℕ
 verdict true = bytes "right"
 verdict false = bytes "wrong"
 
+-- "each parity number with `right` or `wrong`", as `parity 0 right`
 unfoldable pub parity-line : (ℕ → Bool) → ℕ → List ℕ
 parity-line right j = bytes "parity" ++ (spaced (text j) ++ (spaced (verdict (right j)) ++ line-end))
 

@@ -19,6 +19,7 @@ places n = 1 + total 19 (λ i. choose (leb (10 ^ (i + 1)) n) 1 0)
 unfoldable pub text : ℕ → List ℕ
 text n = digits 10 (places n) n
 
+-- a text with a space before it
 abbrev pub spaced : List ℕ → List ℕ
 spaced s = 32 ∷ s
 
