@@ -1,4 +1,5 @@
-// The examples of document 01 that are run and not proved, its limits and its slips: both implementations give what the document says.
+// The examples of document 01 that are run and not proved, its limits and its slips: both implementations give what the document says, and the second with a
+// slip what it says that the slip would give.
 use comparing::Tally;
 use comparing::answers_apart;
 use comparing::apart;
