@@ -7,7 +7,7 @@ use mathlib.Core.Logic.{_≢_}
 use mathlib.Core.Path.{_≡_, refl, sym, ap, ap₂, _∙_}
 use native.Mathlib.Omega.{arith}
 use lib.Dec.{T, eqb, eqb→eq}
-use lib.ListN.{length, getD}
+use lib.ListN.{length}
 use borrow.Author.Tests.{eq-eqb}
 use Rattle.laws.proofs.Bit.{bit-digit}
 use Rattle.laws.proofs.Choose.{at-below, below-at, true-T, T-true}
@@ -27,10 +27,9 @@ use Rattle.away.specs.Away.{away-difference, away-written}
 use Rattle.write.proofs.Accepted.{present-parity, written-parity}
 use Rattle.present.specs.Present.{present-word, present-count}
 use Rattle.write.specs.Written.{written, difference}
-use Rattle.store.proofs.Lists.{shuffled-refl}
 use Rattle.store.specs.Image.{image-last}
 use Rattle.store.specs.Store.{Write, Entry}
-use Rattle.promises.proofs.Demand3.{demand-3}
+use Rattle.promises.proofs.Demand3.{demand-3-of}
 use Rattle.promises.specs.Changed.{strip-changed, strips-changed}
 use Rattle.promises.specs.Demand3.{Revision-bytes, Demand-3, left}
 
@@ -109,7 +108,7 @@ abbrev alone : Write → List Entry
 alone w = record { number = 0; write = w } ∷ []
 
 one-write : (s : List ℕ) (q : Params) → readOf s ≡ Stripe q → Revision-bytes s q → (w : Write) → Demand-3 s q (alone w) (alone w)
-one-write s q i b w = demand-3 s q i b (alone w) (alone w) (record { same-writes = shuffled-refl (alone w); order-kept = λ c t h. refl })
+one-write s q i b w = demand-3-of s q i b (alone w)
 
 module _ (s : List ℕ) (q : Params) (i : readOf s ≡ Stripe q) (b : Revision-bytes s q) (w : Write) where
   -- an accepted write on a right image leaves a right image

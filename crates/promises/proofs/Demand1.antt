@@ -4,7 +4,7 @@ use Prim.Native.Nat.{ℕ, _+_, _-_, _*_, _^_, _<_}
 use mathlib.Core.Bool.{Bool, true, false, not, _&&_}
 use mathlib.Core.List.{List, [], _∷_}
 use mathlib.Core.Logic.{_≢_, inl, inr}
-use mathlib.Core.Path.{_≡_, refl, ap, _∙_, sym}
+use mathlib.Core.Path.{_≡_, refl}
 use native.Mathlib.Decide.{ℕ-discrete, decLt}
 use native.Mathlib.Omega.{arith}
 use borrow.Author.Tests.{lt-ltb, le-ltb, le-leb, ne-eqb}
@@ -17,7 +17,6 @@ use Rattle.algebra.specs.Word.{element}
 use Rattle.refusal.specs.declared.Refusal.{Refusal}
 use Rattle.refusal.specs.declared.Refusal.the-variants.{Cut, Tail, Count, Prime, Shape, Strip, Width, Column, Row, Stale, Ahead, Many, Room, Exponent, Element as NotElement}
 use Rattle.refusal.specs.declared.Refusal.the-variants as Refusal
-use Rattle.refusal.specs.declared.Outcome.{Outcome}
 use Rattle.refusal.specs.declared.Outcome.the-variants.{Refused as Undone}
 use Rattle.refusal.specs.Number.{numberOf}
 use Rattle.stripe.specs.declared.Params.{Params}
@@ -37,10 +36,10 @@ use Rattle.revision.specs.declared.Age.{Age}
 use Rattle.revision.specs.declared.Age.the-variants.{Current, Older, Newer, Unclear}
 use Rattle.revision.specs.Revision.{judged, distance, is-current, age-number, age-distance}
 use Rattle.write.specs.declared.Written.{Written}
-use Rattle.write.specs.declared.Written.the-variants.{Accepted, Aged, Refused}
+use Rattle.write.specs.declared.Written.the-variants.{Aged, Refused}
 use Rattle.write.specs.Written.{writeOf, write-read, write-sound, write-judged, by-age, written-number, written-distance}
 use Rattle.away.specs.Away.{awayOf, away-read, away-sound, away-judged}
-use Rattle.promises.specs.Demand1.{Test, _when_, first-due, params-then, section-numbers, reading-then, product-order, divide-order, make-order, age-order, write-order, away-order, rebuild-order, strip-order, Result, only-answered, of-element, of-checked, of-reading, of-checkup, of-outcome, of-written, Zeros, none, one-more, Refuses-in-order, distance-due, Demand-1}
+use Rattle.promises.specs.Demand1.{Test, _when_, params-then, section-numbers, reading-then, product-order, divide-order, make-order, age-order, write-order, away-order, rebuild-order, strip-order, Result, only-answered, of-element, of-checked, of-reading, of-checkup, of-outcome, of-written, Zeros, none, one-more, Refuses-in-order, distance-due, Demand-1}
 
 -- whichever way a choice goes
 either : {A : Type 0} (P : A → Type 0) (b : Bool) (x y : A) → P x → P y → P (choose b x y)

@@ -18,7 +18,7 @@ use Rattle.block.specs.Parity.{due, Right}
 use Rattle.rebuild.proofs.Cells.{is-rebuilt, rebuilt-length, rebuilt-front, rebuilt-count}
 use Rattle.pattern.proofs.Count.{length-consulted, rising-at, consulted-rising}
 use Rattle.pattern.proofs.Single.{none-lost}
-use Rattle.rebuild.proofs.Independent.{rebuilt-agrees, agrees-image}
+use Rattle.rebuild.proofs.Independent.{rebuilt-agrees}
 use Rattle.promises.proofs.Solved.{whole-only}
 use Rattle.rebuild.specs.Agrees.{AgreesOutside}
 use Rattle.refusal.specs.declared.Outcome.the-variants.{Done}

@@ -3,9 +3,9 @@
 use Prim.Native.Nat.{ℕ, _*_, _<_, _≤_}
 use mathlib.Core.Bool.{true}
 use mathlib.Core.List.{List}
-use mathlib.Core.Path.{_≡_, refl, sym, ap, subst, _∙_}
+use mathlib.Core.Path.{_≡_, sym, ap, subst, _∙_}
 use native.Mathlib.Decide.{ℕ-discrete}
-use lib.ListN.{length, getD}
+use lib.ListN.{getD}
 use Rattle.laws.proofs.Sum.{pick-zero}
 use Rattle.laws.proofs.Xor.{⊕-self, ⊕-zero}
 use Rattle.laws.specs.Sum.{pick}
@@ -18,8 +18,7 @@ use Rattle.block.proofs.Touching.{due-agree, count-least, count-most}
 use Rattle.block.specs.Parity.{due, Right}
 use Rattle.block.specs.Touches.{count, touches}
 use Rattle.revision.specs.Revision.{judged, renewed}
-use Rattle.store.proofs.Lists.{shuffled-refl}
-use Rattle.store.specs.Kinds.{keyed, by-column, Arrangement}
+use Rattle.store.specs.Kinds.{keyed}
 use Rattle.store.specs.Store.{Write, Entry, accepts, answer}
 use Rattle.write.proofs.Accepted.{written-strip-here, written-strip-elsewhere, written-parity, written-revision-here}
 use Rattle.write.specs.Written.{written, difference}
@@ -31,12 +30,12 @@ use Rattle.promises.proofs.Accepted.{reads-image}
 use Rattle.promises.proofs.Away.{agrees-refl, told-alike, left-away-is}
 use Rattle.promises.proofs.Behind.{distance-told}
 use Rattle.promises.proofs.Changed.{count-changed, away-changed}
-use Rattle.promises.proofs.Demand3.{refused-exactly, age-zero, told-sound, demand-3}
+use Rattle.promises.proofs.Demand3.{refused-exactly, age-zero, told-sound, demand-3-of}
 use Rattle.promises.proofs.Writes.{rules, aged, told-is, left-is}
 use Rattle.promises.specs.Away.{told-away, left-away, recounted}
 use Rattle.promises.specs.Changed.{strips-changed, Write-counted, Away-counted, Writes-same, Counted-alike}
 use Rattle.promises.specs.Demand2.{Pattern}
-use Rattle.promises.specs.Demand3.{Answer, answer-of, is-accepted, told, left, last-image, Revision-bytes, Current, Demand-3}
+use Rattle.promises.specs.Demand3.{Answer, answer-of, is-accepted, told, left, last-image, Revision-bytes, Current}
 use Rattle.promises.specs.Useful.{last-byte, Useful}
 
 module _ (s : List ℕ) (q : Params) (w : Write) (c : Current s q w) where
@@ -136,15 +135,11 @@ module _ (s : List ℕ) (q : Params) (w : Write) (c : Current s q w) where
     pub same-bytes : Counted-alike s q w
     same-bytes = record { alike = write-counted; data-stays = data-same; parity-stays = parity-same }
 
--- a list of writes beside itself
-alone : (s : List ℕ) (q : Params) (es : List Entry) → readOf s ≡ Stripe q → Revision-bytes s q → Demand-3 s q es es
-alone s q es reads b = demand-3 s q reads b es es (record { same-writes = shuffled-refl es; order-kept = λ i t h. refl })
-
 last-parity : (s : List ℕ) (q : Params) (es : List Entry) → readOf s ≡ Stripe q → Revision-bytes s q → Right s q
     → (j t x : ℕ) → j < q .r → t < rows q → x < q .b → parity-byte (last-image s es) q j t x ≡ due q (last-byte told left s q es) j t x
 last-parity s q es reads b r j t x hj ht hx =
-    alone s q es reads b .right-stays r .parity-due j t x hj ht hx
-    ∙ due-agree q (data-byte (last-image s es) q) (last-byte told left s q es) j t x (λ i u hi hu. alone s q es reads b .last-strips i u x hi hu hx)
+    demand-3-of s q reads b es .right-stays r .parity-due j t x hj ht hx
+    ∙ due-agree q (data-byte (last-image s es) q) (last-byte told left s q es) j t x (λ i u hi hu. demand-3-of s q reads b es .last-strips i u x hi hu hx)
 
 -- the rules hold of the write
 pub write-useful : Useful told left
@@ -152,7 +147,7 @@ write-useful = record {
   refuses-exactly = λ s q w reads. refused-exactly q s w (reads-image s q reads);
   puts-new-bytes = new-byte;
   sets-revision = new-revision;
-  holds-last-writes = λ s q es reads b. alone s q es reads b .last-strips;
+  holds-last-writes = λ s q es reads b. demand-3-of s q reads b es .last-strips;
   holds-last-parity = last-parity;
   counts-pairs = λ s q w c. write-counted s q w c .counted;
   tells-distance = distance-told;

@@ -42,7 +42,7 @@ use Rattle.promises.proofs.Accepted.{reads-image}
 use Rattle.promises.proofs.Away.{agrees-sym}
 use Rattle.promises.specs.Demand2.{Pattern}
 use Rattle.promises.specs.Demand3.{Answer, Revision-bytes, Sound, Current}
-use Rattle.promises.specs.Useful.{Refuses-exactly, Puts-new-bytes, Sets-revision, last-byte, Holds-last-writes, Holds-last-parity, Counts-pairs, Tells-distance, Rebuilds}
+use Rattle.promises.specs.Useful.{Refuses-exactly, Puts-new-bytes, Sets-revision, Holds-last-writes, Holds-last-parity, Counts-pairs, Tells-distance, Rebuilds}
 
 -- ---- I and the writes
 

@@ -1,7 +1,6 @@
 -- The examples of reading and of the parameters' test, by computation.
 -- Assumes nothing.
-use Prim.Native.Nat.{ℕ}
-use mathlib.Core.List.{List, _∷_, map}
+use mathlib.Core.List.{_∷_, map}
 use mathlib.Core.Path.{_≡_, refl}
 use Rattle.laws.specs.Choose.{below}
 use Rattle.algebra.specs.Prime.{odd-prime}

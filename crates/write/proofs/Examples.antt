@@ -1,6 +1,5 @@
 -- The ends of STALE and AHEAD, and a write half the circle away, by computation and by their numbers.
 -- Assumes nothing.
-use Prim.Native.Nat.{ℕ}
 use mathlib.Core.List.{_∷_, []}
 use mathlib.Core.Path.{_≡_, refl}
 use Rattle.laws.specs.Choose.{below}
