@@ -8,9 +8,12 @@ use comparing::noted;
 use comparing::of_checked;
 use comparing::of_outcome;
 use comparing::of_reading;
-use comparing::of_written;
 use comparing::shapes_apart;
 use comparing::slices_apart;
+use drawing::Note;
+use histories::Way;
+use histories::library_write;
+use histories::second_write;
 use second_ground::Answer;
 use second_ground::FORGOTTEN;
 use second_ground::HALF_CIRCLE;
@@ -186,27 +189,48 @@ fn exponents(t: Tally, slip: u64) -> Tally {
     )
 }
 
-// A write of 00 to column 0, row 0 of an image against a base: the due answer, and the due image.
+// A write of 00 by both implementations: the due answer, and the due image.
 fn write_due(
     t: Tally,
+    way: Way,
+    note: Note,
     one: &mut [u8],
     two: &mut [u8],
-    base: u32,
     answer: Answer,
     image: &[u8],
     slip: u64,
 ) -> Tally {
-    let a = of_written(write::write(one, 0, 0, base, b"\x00"));
-    let b = second::write(two, 0, 0, base, b"\x00", slip);
+    let mut room = [0u8; 40];
+    let a = library_write(one, way, note, b"\x00");
+    let b = second_write(two, way, note, b"\x00", &mut room, slip);
     let t1 = answer_due(t, a, b, answer);
     image_due(t1, one, two, image)
+}
+
+// A write of one byte to column n, row n of I.
+fn note_at(n: usize, base: u32) -> Note {
+    Note {
+        column: n,
+        row: n,
+        base,
+        width: 1,
+    }
 }
 
 // A write of 00 to column 0, row 0 of I that is refused: the due answer, and I.
 fn refused_due(t: Tally, base: u32, answer: Answer, slip: u64) -> Tally {
     let mut one = example();
     let mut two = example();
-    write_due(t, &mut one, &mut two, base, answer, &example(), slip)
+    write_due(
+        t,
+        Way::Whole,
+        note_at(0, base),
+        &mut one,
+        &mut two,
+        answer,
+        &example(),
+        slip,
+    )
 }
 
 // A base before the revision on the circle is STALE, behind by 1 or by three notes, one after it AHEAD, by 1, and one half the circle away UNCLEAR.
@@ -223,9 +247,10 @@ fn accepted_write(t: Tally, slip: u64) -> Tally {
     let mut two = example();
     write_due(
         t,
+        Way::Whole,
+        note_at(0, 0),
         &mut one,
         &mut two,
-        0,
         answered(0, 1, 5),
         b"\x04\x00\x05\x00\x02\x00\x02\x00\x01\x00\x02\x00\x01\x00\x00\x00\x07\x00\x00\x00\x02\x00\x00\x00\x00\x00\x00\x02\x00\x00\x02\x00\x02\x00\x02\x02\x02\x02\x02\x00",
         slip,
@@ -249,55 +274,45 @@ fn away_example() -> [u8; 40] {
     )
 }
 
-// A write of 00 to column 1, row 1 while the columns of a pattern are away: the due answer, and the due image.
-fn away_due(
-    t: Tally,
-    one: &mut [u8],
-    two: &mut [u8],
-    lost: u64,
-    base: u32,
-    answer: Answer,
-    image: &[u8],
-    slip: u64,
-) -> Tally {
-    let mut room = [0u8; 40];
-    let a = of_written(away::write(one, lost, 1, 1, base, b"\x00"));
-    let b = second_lost::write(two, lost, 1, 1, base, b"\x00", &mut room, slip);
-    let t1 = answer_due(t, a, b, answer);
-    image_due(t1, one, two, image)
-}
-
-// Three columns away are MANY, whatever the base; with two away a base one behind is STALE by 1, and one half the circle away UNCLEAR. Then the revision
-// and rows 0 to 2 of parity 1 move: lost columns stay.
-fn away_writes(t: Tally, slip: u64) -> Tally {
+// A write of 00 to column 1, row 1 while columns are away that is refused: the due answer, and the image as it was.
+fn away_refused(t: Tally, lost: u64, base: u32, answer: Answer, slip: u64) -> Tally {
     let mut one = away_example();
     let mut two = away_example();
-    let many = answered(12, 0, 0);
-    let stale = answered(10, 1, 0);
-    let unclear = answered(17, 0, 0);
-    let t1 = away_due(t, &mut one, &mut two, 7, 6, many, &away_example(), slip);
-    let t2 = away_due(t1, &mut one, &mut two, 6, 6, stale, &away_example(), slip);
-    let far = std::num::wrapping_add_u32(7, HALF_CIRCLE);
-    let t3 = away_due(
-        t2,
+    write_due(
+        t,
+        Way::Away(lost),
+        note_at(1, base),
         &mut one,
         &mut two,
-        6,
-        far,
-        unclear,
+        answer,
         &away_example(),
         slip,
-    );
-    away_due(
-        t3,
+    )
+}
+
+// With two columns away the revision and rows 0 to 2 of parity 1 move: lost columns stay.
+fn away_accepted(t: Tally, slip: u64) -> Tally {
+    let mut one = away_example();
+    let mut two = away_example();
+    write_due(
+        t,
+        Way::Away(6),
+        note_at(1, 7),
         &mut one,
         &mut two,
-        6,
-        7,
         answered(0, 8, 3),
         b"\x04\x00\x05\x00\x02\x00\x02\x00\x01\x00\x02\x00\x00\x00\x00\x00\x08\x00\x00\x00\x02\x00\x01\x00\x00\x00\x4d\x09\x03\xff\x02\x00\x12\x55\x08\xa0\x01\x01\x01\x00",
         slip,
     )
+}
+
+// Three columns away are MANY, whatever the base; with two away a base one behind is STALE by 1, and one half the circle away UNCLEAR.
+fn away_writes(t: Tally, slip: u64) -> Tally {
+    let t1 = away_refused(t, 7, 6, answered(12, 0, 0), slip);
+    let t2 = away_refused(t1, 6, 6, answered(10, 1, 0), slip);
+    let far = std::num::wrapping_add_u32(7, HALF_CIRCLE);
+    let t3 = away_refused(t2, 6, far, answered(17, 0, 0), slip);
+    away_accepted(t3, slip)
 }
 
 // The slips: the calls that each would spoil.

@@ -56,7 +56,7 @@ fn start_both(one: &mut [u8], two: &mut [u8], q: Shape, c: usize, way: Way) {
 }
 
 // The library's write.
-fn library_write(image: &mut [u8], way: Way, note: Note, strip: &[u8]) -> Answer {
+pub fn library_write(image: &mut [u8], way: Way, note: Note, strip: &[u8]) -> Answer {
     match way {
         Way::Whole => of_written(write::write(image, note.column, note.row, note.base, strip)),
         Way::Away(lost) => of_written(away::write(
@@ -71,7 +71,7 @@ fn library_write(image: &mut [u8], way: Way, note: Note, strip: &[u8]) -> Answer
 }
 
 // The second implementation's write.
-fn second_write(
+pub fn second_write(
     image: &mut [u8],
     way: Way,
     note: Note,
