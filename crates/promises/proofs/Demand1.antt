@@ -41,10 +41,13 @@ use Rattle.write.specs.Written.{writeOf, write-read, write-sound, write-judged,
 use Rattle.away.specs.Away.{awayOf, away-read, away-sound, away-judged}
 use Rattle.promises.specs.Demand1.{Test, _when_, params-then, section-numbers, reading-then, product-order, divide-order, make-order, age-order, write-order, away-order, rebuild-order, strip-order, Result, only-answered, of-element, of-checked, of-reading, of-checkup, of-outcome, of-written, Zeros, none, one-more, Refuses-in-order, distance-due, Demand-1}
 
--- whichever way a choice goes
+-- whichever way a choice goes, where its test is known then; and where it is not asked for
+pub by-test : {A : Type 0} (P : A → Type 0) (b : Bool) (x y : A) → (b ≡ true → P x) → P y → P (choose b x y)
+by-test P true x y h k = h refl
+by-test P false x y h k = k
+
 either : {A : Type 0} (P : A → Type 0) (b : Bool) (x y : A) → P x → P y → P (choose b x y)
-either P true x y h k = h
-either P false x y h k = k
+either P b x y h k = by-test P b x y (λ _. h) k
 
 -- ---- one test of an order
 

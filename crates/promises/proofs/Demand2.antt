@@ -44,6 +44,7 @@ use Rattle.rebuild.specs.Answer.{rebuildOf, rebuild-read, restoreOf, restore-as
 use Rattle.rebuild.specs.Lost.{rebuilt, whole-data, whole-byte}
 use Rattle.store.proofs.Lists.{and-right, true-ltb}
 use Rattle.promises.proofs.Accepted.{reads-image, image-reads}
+use Rattle.promises.proofs.Demand1.{by-test}
 use Rattle.promises.proofs.Rebuilt.{rebuilt-right, rebuilt-none, rebuild-done}
 use Rattle.promises.proofs.Shown.{front-put, rebuilt-strip, restored-shown}
 use Rattle.promises.proofs.Solved.{whole-only, recovered-solves}
@@ -52,11 +53,6 @@ use Rattle.promises.specs.Demand2.{Pattern, Larger, Comes-to, Made, Refi
 -- what a call comes to, by what it leaves
 comes : (x : Outcome) {l : Left Outcome} {z : List ℕ} → l ≡ record { answer = x; image = z } → Comes-to l (outcome-number x) z
 comes x e = record { answered = ap (λ (l : Left Outcome). outcome-number (l .answer)) e; left = ap (λ (l : Left Outcome). l .image) e }
-
--- whichever way a choice goes, where its test is known then
-by-test : {A : Type 0} (P : A → Type 0) (b : Bool) (x y : A) → (b ≡ true → P x) → P y → P (choose b x y)
-by-test P true x y h k = h refl
-by-test P false x y h k = k
 
 -- ---- as rebuild answers it
 

@@ -40,9 +40,9 @@ use Rattle.store.specs.Image.{image-log, image-last}
 use Rattle.store.specs.Store.{Write, Entry, later, last-accepted, byte-of}
 use Rattle.promises.proofs.Accepted.{reads-image}
 use Rattle.promises.proofs.Away.{agrees-sym}
-use Rattle.promises.specs.Demand2.{Pattern}
+use Rattle.promises.specs.Demand2.{Pattern, Rebuilds}
 use Rattle.promises.specs.Demand3.{Answer, Revision-bytes, Sound, Current}
-use Rattle.promises.specs.Useful.{Refuses-exactly, Puts-new-bytes, Sets-revision, Holds-last-writes, Holds-last-parity, Counts-pairs, Tells-distance, Rebuilds}
+use Rattle.promises.specs.Useful.{Refuses-exactly, Puts-new-bytes, Sets-revision, Holds-last-writes, Holds-last-parity, Counts-pairs, Tells-distance}
 
 -- ---- I and the writes
 

@@ -61,6 +61,10 @@ pub record Checked (s : List ℕ) (q : Params) : Type 0 where
       → (bit (checkup-value (checkOf s)) j ≡ 0) ↔ ((t x : ℕ) → t < rows q → x < q .b → parity-byte s q j t x ≡ due q (data-byte s q) j t x)
   pub other : (j : ℕ) → q .r ≤ j → bit (checkup-value (checkOf s)) j ≡ 0
 
+-- "demand 2 for rebuild", of a program that rebuilds: s is right, and u has anything in the lost columns
+abbrev pub Rebuilds : (List ℕ → ℕ → Left Outcome) → Type 0
+Rebuilds f = (s u : List ℕ) (q : Params) (m : ℕ) → readOf s ≡ Stripe q → Right s q → Pattern q m → AgreesOutside s u q m → Comes-to (f u m) 0 s
+
 -- two calls answered with the same number, and left the same slice where nothing was refused
 pub record Alike (l r : Left Outcome) : Type 0 where
   pub answered : outcome-number (l .answer) ≡ outcome-number (r .answer)
@@ -80,8 +84,8 @@ pub record Demand-2 : Type 0 where
   pub checked : (s : List ℕ) (q : Params) → readOf s ≡ Stripe q → Checked s q
   -- "each bit place of each byte is a code of its own": bit z of parity is the parity of bit z of the data
   pub bit-places : (q : Params) → Admitted q → (d : ℕ → ℕ → ℕ → ℕ) (j t x z : ℕ) → t < rows q → bit (due q d j t x) z ≡ due q (λ i u y. bit (d i u y) z) j t x
-  -- "From a right stripe any set of at most r lost columns is rebuilt to the byte": s is right, and u has anything in the lost columns
-  pub rebuilt : (s u : List ℕ) (q : Params) (m : ℕ) → readOf s ≡ Stripe q → Right s q → Pattern q m → AgreesOutside s u q m → Comes-to (rebuildOf u m) 0 s
+  -- "From a right stripe any set of at most r lost columns is rebuilt to the byte"
+  pub rebuilt : Rebuilds rebuildOf
   -- and so is each of their strips alone, into the first B bytes of the scratch c
   pub restored : (s u : List ℕ) (q : Params) (m n t : ℕ) (c : List ℕ) → readOf s ≡ Stripe q → Right s q → Pattern q m → AgreesOutside s u q m
       → n < q .k + q .r → t < rows q → q .b ≤ length c → is-lost m n ≡ true

@@ -1,26 +1,22 @@
 -- "Five useless programs must not meet it. One that refuses all writes, and one that always answers alike, break demand 3's exact refusal rule. One that does
 -- nothing breaks the new bytes and revision above, and demand 2 for rebuild. One that obeys only its first write breaks demand 3's last state: the bytes of
 -- the last accepted write in each data strip, and parity by demand 2's definition. One that invents the count breaks the pairs (j, q).": the rules that
--- these break, over any program.
+-- these break, over any program; demand 2's for rebuild is `Rebuilds`.
 -- Assumes nothing.
 use Prim.Native.Nat.{ℕ, _<_, _^_}
 use mathlib.Core.List.{List}
 use mathlib.Core.Path.{_≡_}
 use lib.ListN.{getD}
-use Rattle.laws.specs.Left.{Left}
-use Rattle.refusal.specs.declared.Outcome.{Outcome}
 use Rattle.stripe.specs.declared.Params.{Params}
 use Rattle.stripe.specs.declared.Reading.the-variants.{Stripe}
 use Rattle.stripe.specs.Layout.{rows, revisionOf, data-byte, parity-byte}
 use Rattle.stripe.specs.Reading.{readOf}
 use Rattle.block.specs.Parity.{due, Right}
 use Rattle.block.specs.Touches.{count}
-use Rattle.rebuild.specs.Agrees.{AgreesOutside}
 use Rattle.revision.specs.Revision.{renewed}
 use Rattle.store.specs.Image.{image-log, image-last}
 use Rattle.store.specs.Store.{Write, Entry, last-accepted, byte-of}
 use Rattle.promises.specs.Behind.{Says-distance}
-use Rattle.promises.specs.Demand2.{Pattern, Comes-to}
 use Rattle.promises.specs.Demand3.{Answer, is-accepted, Revision-bytes, Exactly-refused, Current}
 
 -- a program that writes: what it answers, and the image that it leaves
@@ -66,7 +62,3 @@ module _ (told : List ℕ → Write → Answer) (left : List ℕ → Write → L
     pub holds-last-parity : Holds-last-parity
     pub counts-pairs : Counts-pairs
     pub tells-distance : Tells-distance
-
--- "demand 2 for rebuild", of a program that rebuilds
-abbrev pub Rebuilds : (List ℕ → ℕ → Left Outcome) → Type 0
-Rebuilds f = (s u : List ℕ) (q : Params) (m : ℕ) → readOf s ≡ Stripe q → Right s q → Pattern q m → AgreesOutside s u q m → Comes-to (f u m) 0 s
