@@ -2,7 +2,7 @@
 -- Assumes nothing.
 use mathlib.Core.List.{[]}
 use mathlib.Core.Path.{_≡_, refl}
-use Rattle.refusal.specs.declared.Refusal.the-variants.{Cut, Stale, Unclear}
+use Rattle.refusal.specs.declared.Refusal.the-variants.{Cut, Stale, Twice}
 use Rattle.refusal.specs.Number.{numberOf}
 use Rattle.words.specs.Words.{parts, before-first}
 use Rattle.texts.specs.Text.{bytes}
@@ -20,6 +20,6 @@ pub stale-named : named (numberOf Stale) ≡ bytes "STALE"
 unfolding parts before-first
 stale-named = refl
 
-pub unclear-named : named (numberOf Unclear) ≡ bytes "UNCLEAR"
+pub twice-named : named (numberOf Twice) ≡ bytes "TWICE"
 unfolding parts before-first
-unclear-named = refl
+twice-named = refl

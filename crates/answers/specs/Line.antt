@@ -13,7 +13,7 @@ use Rattle.answers.specs.declared.Answer.the-variants.{Done, Word, Accep
 
 -- the names of the refusals, each after a space, in the order of their numbers
 abbrev pub names : List ℕ
-names = bytes " CUT TAIL COUNT PRIME SHAPE STRIP WIDTH COLUMN ROW STALE AHEAD MANY ROOM LONG EXPONENT ELEMENT UNCLEAR"
+names = bytes " CUT TAIL COUNT PRIME SHAPE STRIP WIDTH COLUMN ROW STALE AHEAD MANY ROOM LONG EXPONENT ELEMENT UNCLEAR FOREIGN TWICE"
 
 -- the name that has a number: that word of all names
 abbrev pub named : ℕ → List ℕ

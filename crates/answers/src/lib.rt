@@ -28,7 +28,7 @@ fn put_name(line: &mut [u8], n: usize, number: u64) -> usize
     ensures { λ x. ⌜ x ≤ n + 9 ⌝ }
 {
     let names =
-        b" CUT TAIL COUNT PRIME SHAPE STRIP WIDTH COLUMN ROW STALE AHEAD MANY ROOM LONG EXPONENT ELEMENT UNCLEAR";
+        b" CUT TAIL COUNT PRIME SHAPE STRIP WIDTH COLUMN ROW STALE AHEAD MANY ROOM LONG EXPONENT ELEMENT UNCLEAR FOREIGN TWICE";
     let m = put(line, n, b" ");
     put(line, m, words::word(names, b' ', number as usize))
 }

@@ -2,12 +2,13 @@
 -- Assumes nothing.
 use Prim.Native.Nat.{ℕ, _+_, _-_, _<_, _≤_}
 use mathlib.Core.List.{List, _++_}
+use mathlib.Core.Logic.{inl, inr}
 use mathlib.Core.Path.{_≡_, refl, sym, ap, subst, _∙_}
 use native.Mathlib.Omega.{arith}
 use lib.ListN.{length, getD, take, drop, length-append, length-take, length-drop, List·getD-append}
 use lib.Seq.{getD-take, getD-drop, getD-append-add, ext-getD}
 use Rattle.laws.proofs.Place.{Place, before, inside, after, place}
-use Rattle.laws.specs.Part.{part, put}
+use Rattle.laws.specs.Part.{part, put, Clear}
 
 module _ (s : List ℕ) (at : ℕ) where
   pub length-part : (n : ℕ) → at + n ≤ length s → length (part s at n) ≡ n
@@ -69,3 +70,11 @@ is-part s v at n h e f =
 module _ (s : List ℕ) (at : ℕ) (v : List ℕ) (fits : at + length v ≤ length s) where
   pub part-put : part (put s at v) at (length v) ≡ v
   part-put = sym (is-part (put s at v) v at (length v) (rw (length-put s at v fits) fits) refl (λ i h. sym (getD-put-in s at v fits i h)))
+
+  -- a part that what was put does not touch
+  pub part-apart : (a n : ℕ) → a + n ≤ length s → Clear a n at (length v) → part (put s at v) a n ≡ part s a n
+  part-apart a n h c = is-part s (part (put s at v) a n) a n h (length-part (put s at v) a n (rw (length-put s at v fits) h)) (λ i l. getD-part (put s at v) a n i l ∙ stays i l c)
+    where
+      stays : (i : ℕ) → i < n → Clear a n at (length v) → getD (put s at v) (a + i) 0 ≡ getD s (a + i) 0
+      stays i l (inl b) = getD-put-before s at v fits (a + i) (omega arith)
+      stays i l (inr b) = getD-put-after s at v fits (a + i) (omega arith)

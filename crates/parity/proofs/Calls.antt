@@ -13,9 +13,11 @@ use Rattle.laws.specs.Left.{Leaves}
 use Rattle.refusal.specs.declared.Refusal.{Refusal}
 use Rattle.refusal.specs.declared.Refusal.the-variants.{Width, Room as NoRoom}
 use Rattle.stripe.proofs.Places.{columns-small}
+use Rattle.stripe.proofs.Images.{length-parities-in}
 use Rattle.stripe.specs.Layout.{column-length, image-length}
 use Rattle.stripe.specs.Params.{Admitted, checkedOf}
 use Rattle.stripe.specs.Reading.{Image, readOf, refusal-given}
+use Rattle.stripe.specs.Sections.{parities-in}
 use Rattle.stripe.specs.declared.Checked.{Checked}
 use Rattle.stripe.specs.declared.Checked.the-variants.{Sound, Refused as Unsound}
 use Rattle.stripe.specs.declared.Params.{Params}
@@ -23,7 +25,7 @@ use Rattle.stripe.specs.declared.Reading.{Reading}
 use Rattle.stripe.specs.declared.Reading.the-variants.{Stripe, Refused as Unread}
 use Rattle.parity.proofs.Heads.{head-image, head-refilled}
 use Rattle.parity.specs.Answer.{wrong-parities, refillOf, refill-read, checkOf, check-read, make-sound, makeOf, make-checked}
-use Rattle.parity.specs.Inner.{Begun, head, Room}
+use Rattle.parity.specs.Inner.{Room, unset}
 use Rattle.parity.specs.Make.{made}
 use Rattle.block.specs.Parity.{refilled}
 use Rattle.parity.specs.declared.Checkup.the-variants.{Wrong, Refused as Unchecked}
@@ -51,12 +53,12 @@ module _ (s : List ℕ) (v : Reading) (a : v ≡ readOf s) where
 
 -- ---- `fill`
 
-module _ (d s t : List ℕ) (q : Params) (R : Room d s q) (B : Begun s t (head q d)) where
-  pub begun-image : Image t q
-  begun-image = head-image t d q (R .admitted) (R .width) (B .len ∙ R .room) (B .front)
+module _ (d s t : List ℕ) (q : Params) (R : Room d s q) (e : t ≡ unset d s q) where
+  pub unset-image : Image t q
+  unset-image = rw e (head-image d (parities-in s q) q (R .admitted) (R .width) (length-parities-in s q (R .room)))
 
-  pub begun-made : (u : List ℕ) → u ≡ refilled t q → u ≡ made q d
-  begun-made u k = k ∙ head-refilled t d q (R .admitted) (R .width) (B .len ∙ R .room) (B .front)
+  pub set-made : (u : List ℕ) → u ≡ refilled t q → u ≡ made q d
+  set-made u k = k ∙ ap (λ (x : List ℕ). refilled x q) e ∙ head-refilled d (parities-in s q) q (R .admitted) (R .width) (length-parities-in s q (R .room))
 
 -- ---- the ways out of `make_sound`: c is the length of a column, n that of an image
 

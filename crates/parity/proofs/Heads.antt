@@ -1,103 +1,93 @@
--- A list that begins with everything before the parity columns is an image of the data, and to set its parity makes it the right one.
+-- An image of the data, whatever its parity: to set that makes it the right one.
 -- Assumes nothing.
 use Prim.Native.Nat.{ℕ, _+_, _*_, _/_, _%_, _<_, _≤_}
-use mathlib.Core.List.{List, [], _++_, append-assoc, append-nil}
+use mathlib.Core.List.{List}
+use mathlib.Core.Logic.{inl, inr}
 use mathlib.Core.Path.{_≡_, sym, ap, ap₂, _∙_, refl, fun-ext}
 use native.Mathlib.Nat.{mod-lt}
 use native.Mathlib.Omega.{arith}
-use lib.ListN.{length, getD, length-append, take, drop, take-append-drop, List·getD-append, drop-of-length-le}
-use lib.Seq.{getD-append-add}
-use Rattle.laws.proofs.Tab.{getD-tab, length-tab}
-use Rattle.laws.specs.Number.{byte, u16}
-use Rattle.laws.specs.Part.{put, tab}
+use lib.ListN.{length, getD}
+use Rattle.laws.proofs.Part.{length-put, part-put, part-apart}
+use Rattle.laws.proofs.Tab.{length-tab}
+use Rattle.laws.specs.Part.{part, put, tab}
 use Rattle.laws.specs.Patch.{patch}
 use Rattle.stripe.proofs.Places.{strip-in}
-use Rattle.stripe.specs.Layout.{data-from, data-count-at, parity-count-at, strip-at, rows, data-byte, parity-from, column-length, image-length}
+use Rattle.stripe.proofs.Images.{image-of-image, of-columns, parities-put}
+use Rattle.stripe.specs.Layout.{revision-at, data-at, data-from, strip-at, rows, data-byte, parity-from, column-length}
 use Rattle.stripe.specs.Params.{Admitted}
 use Rattle.stripe.specs.Reading.{Image}
+use Rattle.stripe.specs.Sections.{image-of, revisions-in, columns-in, parities-in}
 use Rattle.stripe.specs.declared.Params.{Params}
-use Rattle.parity.proofs.Front.{length-sixteen, length-head}
 use Rattle.block.proofs.Touching.{due-agree}
-use Rattle.parity.specs.Inner.{opening, head}
-use Rattle.parity.specs.Make.{sixteen, given, made}
 use Rattle.block.specs.Parity.{due-at, refilled}
+use Rattle.parity.specs.Inner.{Room, unset}
+use Rattle.parity.specs.Make.{given, made}
 
--- a number that stands in a list is read back
-number-at : (pre post : List ℕ) (v at : ℕ) → length pre ≡ at → v ≤ 65535 → u16 (pre ++ (sixteen v ++ post)) at ≡ v
-number-at pre post v at e h =
-    let x : List ℕ = sixteen v ++ post in
-    let l = length-sixteen v in
-    let z : length pre + 0 ≡ at = omega arith in
-    let y : length pre + 1 ≡ at + 1 = omega arith in
-    let a : getD (pre ++ x) at 0 ≡ v / 1 % 256 =
-    ap (λ (o : ℕ). getD (pre ++ x) o 0) (sym z) ∙ getD-append-add pre x 0 0 ∙ List·getD-append (sixteen v) post 0 0 (omega arith) ∙ getD-tab 2 (byte v) 0 (omega arith) in
-    let b : getD (pre ++ x) (at + 1) 0 ≡ v / 256 % 256 =
-    ap (λ (o : ℕ). getD (pre ++ x) o 0) (sym y) ∙ getD-append-add pre x 1 0 ∙ List·getD-append (sixteen v) post 0 1 (omega arith) ∙ getD-tab 2 (byte v) 1 (omega arith) in
-    rw (a, b) (omega arith)
+abbrev zeros : Params → List ℕ
+zeros q = tab (4 * q .k) (λ o. 0)
 
--- the same in a list t that is known by an equation
-number-in : (t pre post : List ℕ) (v at : ℕ) → t ≡ pre ++ (sixteen v ++ post) → length pre ≡ at → v ≤ 65535 → u16 t at ≡ v
-number-in t pre post v at z e h = ap (λ (x : List ℕ). u16 x at) z ∙ number-at pre post v at e h
+pub length-zeros : (q : Params) → length (zeros q) ≡ 4 * q .k
+length-zeros q = length-tab (4 * q .k) (λ o. 0)
 
-abbrev zeros : ℕ → List ℕ
-zeros k = tab (4 * k) (λ o. 0)
+-- ---- `put_data`: revisions, data, then the counts around them
 
-module _ (t d : List ℕ) (q : Params) (A : Admitted q) (w : length d ≡ q .k * column-length q) (l : length t ≡ image-length q) (f : take (length (head q d)) t ≡ head q d) where
-  rest : List ℕ
-  rest = drop (length (head q d)) t
+module _ (d s t u : List ℕ) (q : Params) (at to : ℕ) (R : Room d s q) (e2 : u ≡ put t to d) (to-is : to ≡ data-at q 0) (e1 : t ≡ put s at (zeros q)) (at-is : at ≡ revision-at 0) where
+  lz : length (zeros q) ≡ 4 * q .k
+  lz = length-zeros q
 
-  whole : t ≡ head q d ++ rest
-  unfolding rest
-  whole = sym (take-append-drop (length (head q d)) t) ∙ ap (λ (x : List ℕ). x ++ drop (length (head q d)) t) f
+  at-in : at + length (zeros q) ≤ length s
+  at-in = omega (arith, lz, R .room)
 
-  pub head-image : Image t q
-  head-image =
-      let a : List ℕ = sixteen 4 in
-      let b : List ℕ = sixteen (q .p) in
-      let c : List ℕ = sixteen (q .k) in
-      let r : List ℕ = sixteen (q .r) in
-      let s : List ℕ = sixteen (q .b) in
-      let z : List ℕ = zeros (q .k) in
-      record {
-        admitted = A;
-        four = number-in t [] (b ++ c ++ r ++ s ++ c ++ z ++ c ++ d ++ r ++ rest) 4 0 (whole ∙ simp append-assoc) refl (omega arith);
-        p-at = number-in t a (c ++ r ++ s ++ c ++ z ++ c ++ d ++ r ++ rest) (q .p) 2 (whole ∙ simp append-assoc) (simp length-tab) (omega (arith, A .p-high));
-        k-at = number-in t (a ++ b) (r ++ s ++ c ++ z ++ c ++ d ++ r ++ rest) (q .k) 4 (whole ∙ simp append-assoc) (simp (length-append, length-tab)) (omega (arith, A .p-high, A .fits));
-        r-at = number-in t (a ++ b ++ c) (s ++ c ++ z ++ c ++ d ++ r ++ rest) (q .r) 6 (whole ∙ simp append-assoc) (simp (length-append, length-tab)) (omega (arith, A .p-high, A .fits));
-        b-at = number-in t (a ++ b ++ c ++ r) (c ++ z ++ c ++ d ++ r ++ rest) (q .b) 8 (whole ∙ simp append-assoc) (simp (length-append, length-tab)) (omega (arith, A .b-high));
-        len = l;
-        k-first = number-in t (a ++ b ++ c ++ r ++ s) (z ++ c ++ d ++ r ++ rest) (q .k) 10 (whole ∙ simp append-assoc) (simp (length-append, length-tab)) (omega (arith, A .p-high, A .fits));
-        k-again = number-in t (a ++ b ++ c ++ r ++ s ++ c ++ z) (d ++ r ++ rest) (q .k) (data-count-at q) (whole ∙ simp append-assoc) (simp (length-append, length-tab) (omega arith)) (omega (arith, A .p-high, A .fits));
-        r-there = number-in t (a ++ b ++ c ++ r ++ s ++ c ++ z ++ c ++ d) rest (q .r) (parity-count-at q) (whole ∙ simp append-assoc) (simp (length-append, length-tab) (omega arith)) (omega (arith, A .p-high, A .fits));
-      }
+  lt : length t ≡ length s
+  lt = ap length e1 ∙ length-put s at (zeros q) at-in
+
+  to-in : to + length d ≤ length t
+  to-in = omega (arith, lt, R .room, R .width)
+
+  pub data-put : (v : List ℕ) → v ≡ image-of q (revisions-in u q) (columns-in u q) (parities-in u q) → v ≡ unset d s q
+  data-put v e =
+      let l = R .room in
+      let w = R .width in
+      let z = lz in
+      let z2 = lt in
+      let r : revisions-in u q ≡ zeros q =
+      ap (λ (x : List ℕ). revisions-in x q) e2 ∙ part-apart t to d to-in (revision-at 0) (4 * q .k) (omega arith) (inl (omega arith))
+      ∙ ap (λ (x : List ℕ). revisions-in x q) e1 ∙ ap₂ (λ (x y : ℕ). part (put s at (zeros q)) x y) (sym at-is) (sym lz) ∙ part-put s at (zeros q) at-in in
+      let c : columns-in u q ≡ d =
+      ap (λ (x : List ℕ). columns-in x q) e2 ∙ ap₂ (λ (x y : ℕ). part (put t to d) x y) (omega arith) (sym w) ∙ part-put t to d to-in in
+      let p : parities-in u q ≡ parities-in s q =
+      ap (λ (x : List ℕ). parities-in x q) e2 ∙ part-apart t to d to-in (parity-from q) (q .r * column-length q) (omega arith) (inr (omega arith))
+      ∙ ap (λ (x : List ℕ). parities-in x q) e1 ∙ part-apart s at (zeros q) at-in (parity-from q) (q .r * column-length q) (omega arith) (inr (omega arith)) in
+      e ∙ ap₂ (λ (x y : List ℕ). image-of q x y (parities-in u q)) r c ∙ ap (image-of q (zeros q) d) p
+
+-- ---- the image of the data
+
+module _ (d c : List ℕ) (q : Params) (A : Admitted q) (w : length d ≡ q .k * column-length q) (l : length c ≡ q .r * column-length q) where
+  t : List ℕ
+  t = image-of q (zeros q) d c
+
+  pub head-image : Image (image-of q (zeros q) d c) q
+  head-image = image-of-image q (zeros q) d c (length-zeros q) w l A
 
   -- the data stand where an image has them
-  pub head-data : (i u x : ℕ) → i < q .k → u < rows q → x < q .b → data-byte t q i u x ≡ given d q i u x
+  pub head-data : (i u x : ℕ) → i < q .k → u < rows q → x < q .b → data-byte (image-of q (zeros q) d c) q i u x ≡ given d q i u x
   head-data i u x h k g =
-      let pre : List ℕ = opening q ++ zeros (q .k) ++ sixteen (q .k) in
-      let post : List ℕ = sixteen (q .r) ++ rest in
-      let lp : length pre ≡ data-from q = simp (length-append, length-tab) (omega arith) in
       let o : ℕ = i * column-length q + u * q .b + x in
-      let z : t ≡ pre ++ (d ++ post) = whole ∙ simp append-assoc in
-      let y : strip-at q i u + x ≡ length pre + o = omega arith in
-      let inside : o < length d = omega (arith, strip-in q i u h k) in
-      ap₂ (λ (v : List ℕ) (m : ℕ). getD v m 0) z y ∙ getD-append-add pre (d ++ post) o 0 ∙ List·getD-append d post 0 o inside
+      let y : strip-at q i u + x ≡ data-from q + o = omega arith in
+      ap (λ (m : ℕ). getD (image-of q (zeros q) d c) m 0) y ∙ of-columns q (zeros q) d c (length-zeros q) w l o (omega (arith, strip-in q i u h k))
 
-  -- parity from the data in the list is parity from the data
+  -- parity from the data in the image is parity from the data
   due-given : (o : ℕ) → due-at q (data-byte t q) o ≡ due-at q (given d q) o
-  unfolding due-at
+  unfolding due-at t
   due-given o =
-      let c : ℕ = column-length q in
+      let C : ℕ = column-length q in
       let some : 0 < q .b = omega (arith, A .b-low) in
-      due-agree q (data-byte t q) (given d q) (o / c) (o % c / q .b) (o % c % q .b) (λ i u h k. head-data i u (o % c % q .b) h k (mod-lt (o % c) some))
+      due-agree q (data-byte t q) (given d q) (o / C) (o % C / q .b) (o % C % q .b) (λ i u h k. head-data i u (o % C % q .b) h k (mod-lt (o % C) some))
 
-  pub head-refilled : refilled t q ≡ made q d
-  unfolding refilled patch put made
+  pub head-refilled : refilled (image-of q (zeros q) d c) q ≡ made q d
+  unfolding refilled patch made t
   head-refilled =
       let n : ℕ = q .r * column-length q in
       let F : ℕ → ℕ = due-at q (given d q) in
-      let lh : length (head q d) ≡ parity-from q = length-head q d w in
-      let lt : length (tab n F) ≡ n = length-tab n F in
       ap (λ (v : List ℕ). put t (parity-from q) v) (ap (tab n) (fun-ext due-given))
-      ∙ ap₂ (λ (x y : List ℕ). x ++ (tab n F ++ y)) (ap (λ (m : ℕ). take m t) (sym lh) ∙ f) (drop-of-length-le t {i = parity-from q + length (tab n F)} (omega arith))
-      ∙ simp (append-assoc, append-nil)
+      ∙ parities-put q (zeros q) d c (tab n F) (length-zeros q) w (length-tab n F ∙ sym l)

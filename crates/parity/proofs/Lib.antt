@@ -1,6 +1,5 @@
 pub mod Bytes
 pub mod Columns
-pub mod Front
 pub mod Heads
 pub mod Calls
 pub mod Rightness

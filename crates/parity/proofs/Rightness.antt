@@ -2,16 +2,15 @@
 -- Assumes nothing.
 use Prim.Native.Nat.{ℕ, _+_, _*_, _/_, _%_, _^_, _<_, _≤_}
 use mathlib.Core.Bool.{Bool, true, false}
-use mathlib.Core.List.{List, _++_, append-assoc}
+use mathlib.Core.List.{List}
 use mathlib.Core.Logic.{_↔_}
-use mathlib.Core.Path.{_≡_, sym, ap, ap₂, subst, _∙_, refl}
+use mathlib.Core.Path.{_≡_, sym, ap, subst, _∙_, refl}
 use native.Mathlib.Decide.{decLt}
 use native.Mathlib.Nat.{mod-lt, div-add-mod', mul-le-mul, div-eq-of-lt}
 use native.Mathlib.Omega.{arith}
 use lib.Dec.{eqb}
-use lib.ListN.{length, getD, length-append, take, List·getD-append}
+use lib.ListN.{length, getD}
 use lib.Pow.{pow-mono}
-use lib.Seq.{getD-append-add, take-append-seam}
 use borrow.Author.Tests.{eq-eqb, eqb-true}
 use Rattle.laws.proofs.Bit.{pack-lt, bit-pack, bit-zero, pack-ext, pack-zero}
 use Rattle.laws.proofs.Patch.{patched, is-patch, patch-same}
@@ -22,17 +21,16 @@ use Rattle.laws.specs.Choose.{choose}
 use Rattle.laws.specs.Part.{tab}
 use Rattle.laws.specs.Patch.{Patched}
 use Rattle.stripe.proofs.Frame.{image-parity}
-use Rattle.stripe.specs.Layout.{rows, data-byte, parity-byte, parity-from, parity-at, parity-strip-at, column-length, image-length, revisionOf}
+use Rattle.stripe.proofs.Images.{of-revisions}
+use Rattle.stripe.specs.Layout.{rows, data-byte, parity-byte, parity-from, parity-at, parity-strip-at, column-length, revisionOf}
 use Rattle.stripe.specs.Params.{Admitted}
 use Rattle.stripe.specs.Reading.{Image}
 use Rattle.stripe.specs.declared.Params.{Params}
 use Rattle.parity.proofs.Bytes.{all-below}
 use Rattle.parity.proofs.Columns.{at-column, column-row, same-due, column-some, right-byte}
-use Rattle.parity.proofs.Front.{length-head}
-use Rattle.parity.proofs.Heads.{head-image, head-refilled, head-data}
+use Rattle.parity.proofs.Heads.{length-zeros, head-image, head-refilled, head-data}
 use Rattle.parity.specs.Answer.{parity-right, wrong-parities}
-use Rattle.parity.specs.Inner.{opening, head}
-use Rattle.parity.specs.Make.{sixteen, given, made}
+use Rattle.parity.specs.Make.{given, made}
 use Rattle.block.specs.Parity.{due, due-at, refilled, Right}
 
 -- ---- refilling
@@ -94,37 +92,29 @@ right-refilled s q i r =
 -- ---- making
 
 module _ (q : Params) (d : List ℕ) (A : Admitted q) (w : length d ≡ q .k * column-length q) where
-  made-head : made q d ≡ head q d ++ tab (q .r * column-length q) (due-at q (given d q))
-  unfolding made
-  made-head = simp append-assoc
+  parities : List ℕ
+  parities = tab (q .r * column-length q) (due-at q (given d q))
 
-  made-length : length (made q d) ≡ image-length q
-  made-length =
-      ap length made-head ∙ length-append (head q d) (tab (q .r * column-length q) (due-at q (given d q)))
-      ∙ omega (arith, length-head q d w, length-tab (q .r * column-length q) (due-at q (given d q)))
-
-  made-front : take (length (head q d)) (made q d) ≡ head q d
-  made-front = ap (take (length (head q d))) made-head ∙ take-append-seam (head q d) (tab (q .r * column-length q) (due-at q (given d q)))
+  length-parities : length parities ≡ q .r * column-length q
+  unfolding parities
+  length-parities = length-tab (q .r * column-length q) (due-at q (given d q))
 
   pub made-image : Image (made q d) q
-  made-image = head-image (made q d) d q A w made-length made-front
+  unfolding made parities
+  made-image = head-image d parities q A w length-parities
 
   pub made-right : Right (made q d) q
-  made-right = subst (λ (s : List ℕ). Right s q) (head-refilled (made q d) d q A w made-length made-front) (refilled-right (made q d) q made-image)
+  unfolding made parities
+  made-right = subst (λ (s : List ℕ). Right s q) (head-refilled d parities q A w length-parities) (refilled-right (made q d) q made-image)
 
   pub made-data : (i t x : ℕ) → i < q .k → t < rows q → x < q .b → data-byte (made q d) q i t x ≡ given d q i t x
-  made-data = head-data (made q d) d q A w made-length made-front
+  unfolding made parities
+  made-data = head-data d parities q A w length-parities
 
   -- "revisions 0"
   zero-at : (o : ℕ) → o < 4 * q .k → getD (made q d) (12 + o) 0 ≡ 0
-  zero-at o h =
-      let pre : List ℕ = opening q in
-      let zeros : List ℕ = tab (4 * q .k) (λ o. 0) in
-      let post : List ℕ = sixteen (q .k) ++ d ++ sixteen (q .r) ++ tab (q .r * column-length q) (due-at q (given d q)) in
-      let z : made q d ≡ pre ++ (zeros ++ post) = made-head ∙ simp append-assoc in
-      let l : length pre ≡ 12 = simp (length-append, length-tab) in
-      let k : length zeros ≡ 4 * q .k = length-tab (4 * q .k) (λ o. 0) in
-      ap₂ (λ (v : List ℕ) (m : ℕ). getD v (m + o) 0) z (sym l) ∙ getD-append-add pre (zeros ++ post) o 0 ∙ List·getD-append zeros post 0 o (omega arith) ∙ getD-tab (4 * q .k) (λ o. 0) o h
+  unfolding made parities
+  zero-at o h = of-revisions q _ d parities (length-zeros q) w length-parities o h ∙ getD-tab (4 * q .k) (λ o. 0) o h
 
   pub made-revisions : (i : ℕ) → i < q .k → revisionOf (made q d) i ≡ 0
   made-revisions i h =

@@ -1,19 +1,19 @@
 -- What the inner functions ask for and what they leave.
 -- Assumes nothing.
 use Prim.Native.Nat.{ℕ, _+_, _*_, _/_, _%_, _<_, _≤_}
-use mathlib.Core.List.{List, _++_}
+use mathlib.Core.List.{List}
 use mathlib.Core.Logic.{_≢_}
 use mathlib.Core.Path.{_≡_}
-use lib.ListN.{length, take, getD}
+use lib.ListN.{length, getD}
 use Rattle.laws.specs.Bit.{pack}
 use Rattle.laws.specs.Choose.{choose}
-use Rattle.laws.specs.Part.{put}
+use Rattle.laws.specs.Part.{tab}
 use Rattle.stripe.specs.Layout.{rows, column-length, image-length, parity-byte, data-byte, parity-from}
 use Rattle.stripe.specs.Params.{Admitted}
 use Rattle.stripe.specs.Reading.{Image}
+use Rattle.stripe.specs.Sections.{image-of, parities-in}
 use Rattle.stripe.specs.declared.Params.{Params}
 use Rattle.parity.specs.Answer.{parity-right}
-use Rattle.parity.specs.Make.{sixteen, section-1, section-2, section-3}
 use Rattle.block.specs.Parity.{due}
 
 -- ---- parity by blocks of lanes: lane x is byte x of each strip
@@ -59,30 +59,12 @@ pub record Columns-filled (s t : List ℕ) (q : Params) (n : ℕ) : Type 0 where
 
 -- ---- a new image
 
--- three numbers of 16 bits
-abbrev pub three : ℕ → ℕ → ℕ → List ℕ
-three a b c = sixteen a ++ sixteen b ++ sixteen c
-
 -- data and a slice of the right lengths
 pub record Room (d s : List ℕ) (q : Params) : Type 0 where
   pub admitted : Admitted q
   pub width : length d ≡ q .k * column-length q
   pub room : length s ≡ image-length q
 
--- s is now t: the bytes of v were put at a place
-pub record Written (s t : List ℕ) (at : ℕ) (v : List ℕ) : Type 0 where
-  pub len : length t ≡ length s
-  pub bytes : t ≡ put s at v
-
--- s is now t, which begins with the list v
-pub record Begun (s t v : List ℕ) : Type 0 where
-  pub len : length t ≡ length s
-  pub front : take (length v) t ≡ v
-
--- section 1 and the count of section 2
-abbrev pub opening : Params → List ℕ
-opening q = section-1 q ++ sixteen (q .k)
-
--- everything before the parity columns
-abbrev pub head : Params → List ℕ → List ℕ
-head q d = section-1 q ++ section-2 q ++ section-3 q d ++ sixteen (q .r)
+-- the image of the data d, revisions 0, with the parity that s has
+abbrev pub unset : List ℕ → List ℕ → Params → List ℕ
+unset d s q = image-of q (tab (4 * q .k) (λ o. 0)) d (parities-in s q)

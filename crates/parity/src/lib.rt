@@ -13,9 +13,9 @@ ghost use Rattle.laws.specs.Left.{Leaves};
 ghost use Rattle.stripe.specs.Params.{Admitted};
 ghost use Rattle.stripe.specs.Reading.{Image};
 ghost use Rattle.block.specs.Parity.{refilled};
-ghost use Rattle.parity.specs.Make.{sixteen, made};
+ghost use Rattle.parity.specs.Make.{made};
 ghost use Rattle.parity.specs.Answer.{make-sound, makeOf, refillOf, wrong-parities, checkOf};
-ghost use Rattle.parity.specs.Inner.{wrong-bit, Column-asked, Starts, Column-filled, Written, three, Room, Begun, opening, head};
+ghost use Rattle.parity.specs.Inner.{wrong-bit, Column-asked, Starts, Column-filled, Room, unset};
 
 // How many lanes a block has: as many as a walk takes, or less where the strips are not so wide.
 const WIDE: usize = walk::LANES;
@@ -249,43 +249,14 @@ pub fn check(image: &[u8]) -> Checkup
     Checkup::Wrong(wrong(image, q))
 }
 
-// Puts a number of 16 bits at a place.
-fn put_number(s: &mut [u8], at: usize, v: usize)
-    requires { ⌜ (at + 2 ≤ length (now s)) × (v ≤ 65535) ⌝ }
-    ensures { λ _. ⌜ Written (now (s .entry)) (now (s .exit)) at (sixteen v) ⌝ }
-{
-    stripe::put_u16(s, at, v as u16);
-}
-
-// Puts three numbers of 16 bits at a place.
-fn put_three(s: &mut [u8], at: usize, u: usize, v: usize, w: usize)
-    requires { ⌜ (at + 6 ≤ length (now s)) × (u ≤ 65535) × (v ≤ 65535) × (w ≤ 65535) ⌝ }
-    ensures { λ _. ⌜ Written (now (s .entry)) (now (s .exit)) at (three u v w) ⌝ }
-{
-    put_number(s, at, u);
-    put_number(s, at + 2, v);
-    put_number(s, at + 4, w);
-}
-
-// Writes section 1 and the count of section 2.
-fn put_params(image: &mut [u8], q: Params)
-    requires { ⌜ Admitted q × (12 ≤ length (now image)) ⌝ }
-    ensures { λ _. ⌜ Begun (now (image .entry)) (now (image .exit)) (opening q) ⌝ }
-{
-    put_three(image, 0, 4, q.p, q.k);
-    put_three(image, 6, q.r, q.b, q.k);
-}
-
-// Writes everything before the parity columns.
-fn put_head(image: &mut [u8], q: Params, given: &[u8])
+// Writes an image of data of the right length, revisions 0; its parity is not yet set.
+fn put_data(image: &mut [u8], q: Params, given: &[u8])
     requires { ⌜ Room (now given) (now image) q ⌝ }
-    ensures { λ _. ⌜ Begun (now (image .entry)) (now (image .exit)) (head q (now (given .entry))) ⌝ }
+    ensures { λ _. ⌜ now (image .exit) ≡ unset (now (given .entry)) (now (image .entry)) q ⌝ }
 {
-    put_params(image, q);
-    engine::clear(image, 12, 4 * q.k);
-    put_number(image, q.revision_at(q.k), q.k);
+    engine::clear(image, q.revision_at(0), 4 * q.k);
     engine::copy_in(image, q.data_at(0), given);
-    put_number(image, q.data_at(q.k), q.r);
+    stripe::put_counts(image, q);
 }
 
 // Fills the slice with the image of data of the right length.
@@ -293,7 +264,7 @@ fn fill(image: &mut [u8], q: Params, given: &[u8])
     requires { ⌜ Room (now given) (now image) q ⌝ }
     ensures { λ _. ⌜ now (image .exit) ≡ made q (now (given .entry)) ⌝ }
 {
-    put_head(image, q, given);
+    put_data(image, q, given);
     refill_all(image, q);
 }
 

@@ -16,6 +16,7 @@ use Rattle.algebra.specs.Prime.{odd-prime}
 use Rattle.algebra.specs.Word.{element, overOf, laneOf, timesOf}
 use Rattle.stripe.specs.Params.{admitted-prime, checkedOf, admitted-shape, admitted-strip}
 use Rattle.stripe.specs.Reading.{readOf, withParams, sectionsOf}
+use Rattle.stripe.specs.Sections.{image-of}
 use Rattle.ring.specs.Answer.{divide-answer, different}
 use Rattle.parity.specs.Answer.{makeOf, make-checked, make-sound, checkOf, check-read, wrong-parities, parity-right}
 use Rattle.parity.specs.Make.{made}
@@ -29,5 +30,5 @@ use Rattle.rebuild.specs.Lost.{rebuilt, whole-data, whole-parity, recovered, co
 use Rattle.promises.specs.Table.{bench}
 
 pub examples-right : map (λ r. r .given) bench ≡ map (λ r. r .expected) bench
-unfolding bench divide-answer element different admitted-prime odd-prime below weight bit overOf pack laneOf act quot turn gap inv evens sum pick _⊕_ makeOf make-checked make-sound checkedOf admitted-shape admitted-strip made due-at due coefficient lane tab part put checkOf check-read wrong-parities parity-right readOf withParams sectionsOf rebuildOf rebuild-read pattern-fits few-lost rebuilt patch whole-data whole-parity recovered consulted lost-exponents present-exponents consulted-lanes present-lanes D writeOf write-read write-sound write-judged judged distance renewed written moved difference touches touch-word count total timesOf put32
+unfolding bench divide-answer element different admitted-prime odd-prime below weight bit overOf pack laneOf act quot turn gap inv evens sum pick _⊕_ makeOf make-checked make-sound checkedOf admitted-shape admitted-strip made image-of due-at due coefficient lane tab part put checkOf check-read wrong-parities parity-right readOf withParams sectionsOf rebuildOf rebuild-read pattern-fits few-lost rebuilt patch whole-data whole-parity recovered consulted lost-exponents present-exponents consulted-lanes present-lanes D writeOf write-read write-sound write-judged judged distance renewed written moved difference touches touch-word count total timesOf put32
 examples-right = refl

@@ -2,7 +2,7 @@
 -- Assumes nothing.
 use Prim.Native.Nat.{ℕ}
 use Rattle.refusal.specs.declared.Refusal.{Refusal}
-use Rattle.refusal.specs.declared.Refusal.the-variants.{Cut, Tail, Count, Prime, Shape, Strip, Width, Column, Row, Stale, Ahead, Many, Room, Long, Exponent, Element, Unclear}
+use Rattle.refusal.specs.declared.Refusal.the-variants.{Cut, Tail, Count, Prime, Shape, Strip, Width, Column, Row, Stale, Ahead, Many, Room, Long, Exponent, Element, Unclear, Foreign, Twice}
 
 abbrev pub numberOf : Refusal → ℕ
 -- image too short
@@ -39,3 +39,7 @@ numberOf Exponent = 15
 numberOf Element = 16
 -- request 3: "The exact half gets a refusal of its own"
 numberOf Unclear = 17
+-- request 4: "parameters unlike the first file's or a flag wrong for n"
+numberOf Foreign = 18
+-- request 4: "a column met again"
+numberOf Twice = 19

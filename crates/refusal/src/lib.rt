@@ -20,6 +20,8 @@ pub enum Refusal {
     Exponent,
     Element,
     Unclear,
+    Foreign,
+    Twice,
 }
 
 // Done, or the refusal.
@@ -51,6 +53,8 @@ impl Refusal {
             Refusal::Exponent => 15,
             Refusal::Element => 16,
             Refusal::Unclear => 17,
+            Refusal::Foreign => 18,
+            Refusal::Twice => 19,
         }
     }
 }

@@ -1,4 +1,4 @@
-// The parameters of a stripe, where its parts lie in an image, and the reading of an image.
+// The parameters of a stripe, where its parts lie in an image, and the reading and writing of an image's sections.
 use refusal::Refusal;
 ghost use mathlib.Core.Path.{_≡_};
 ghost use Prim.Native.Nat.{_+_, _*_, _<_, _≤_};
@@ -7,6 +7,7 @@ ghost use Rattle.laws.specs.Number.{u16, u32, put16, put32};
 ghost use Rattle.stripe.specs.Params.{admitted-prime, admitted-shape, admitted-strip, checkedOf, Admitted};
 ghost use Rattle.stripe.specs.Layout.{rows, column-length, revision-at, data-at, strip-at, parity-at, parity-strip-at, image-length};
 ghost use Rattle.stripe.specs.Reading.{sectionsOf, readOf, refusal-given};
+ghost use Rattle.stripe.specs.Sections.{sixteen, three, opening, Put-in, Fits, image-of, revisions-in, columns-in, parities-in};
 
 // The parameters p, k, r and B of a stripe.
 pub struct Params {
@@ -229,7 +230,7 @@ pub fn u32_at(s: &[u8], at: usize) -> u32
 }
 
 // Puts the two bytes of v at a place.
-pub fn put_u16(s: &mut [u8], at: usize, v: u16)
+fn put_u16(s: &mut [u8], at: usize, v: u16)
     requires { ⌜ at + 2 ≤ length (now s) ⌝ }
     ensures { λ _. ⌜ now (s .exit) ≡ put16 (now (s .entry)) at v ⌝ }
 {
@@ -249,23 +250,60 @@ pub fn put_u32(s: &mut [u8], at: usize, v: u32)
 }
 
 // The number of 16 bits at a place, as a size.
-fn number(s: &[u8], at: usize) -> usize
+pub fn number(s: &[u8], at: usize) -> usize
     requires { ⌜ at + 2 ≤ length (now s) ⌝ }
     ensures { λ r. ⌜ (r ≡ u16 (now (s .entry)) at) × (r ≤ 65535) ⌝ }
 {
     u16_at(s, at) as usize
 }
 
-// The test of the parameters that stand in an image.
-fn parameters(image: &[u8]) -> Checked
-    requires { ⌜ 10 ≤ length (now image) ⌝ }
-    ensures { λ x. ⌜ x ≡ checkedOf (u16 (now (image .entry)) 2) (u16 (now (image .entry)) 4) (u16 (now (image .entry)) 6) (u16 (now (image .entry)) 8) ⌝ }
+// Puts a number of 16 bits at a place.
+pub fn put_number(s: &mut [u8], at: usize, v: usize)
+    requires { ⌜ (at + 2 ≤ length (now s)) × (v ≤ 65535) ⌝ }
+    ensures { λ _. ⌜ Put-in (now (s .entry)) (now (s .exit)) at (sixteen v) ⌝ }
+{
+    put_u16(s, at, v as u16);
+}
+
+// Puts three numbers of 16 bits at a place.
+fn put_three(s: &mut [u8], at: usize, u: usize, v: usize, w: usize)
+    requires { ⌜ (at + 6 ≤ length (now s)) × (u ≤ 65535) × (v ≤ 65535) × (w ≤ 65535) ⌝ }
+    ensures { λ _. ⌜ Put-in (now (s .entry)) (now (s .exit)) at (three u v w) ⌝ }
+{
+    put_number(s, at, u);
+    put_number(s, at + 2, v);
+    put_number(s, at + 4, w);
+}
+
+// Writes a count, the parameters and the number behind them: what an image and the file of a column open with.
+pub fn put_opening(s: &mut [u8], count: usize, q: Params, next: usize)
+    requires { ⌜ Admitted q × (12 ≤ length (now s)) × (count ≤ 65535) × (next ≤ 65535) ⌝ }
+    ensures { λ _. ⌜ Put-in (now (s .entry)) (now (s .exit)) 0 (opening count q next) ⌝ }
+{
+    put_three(s, 0, count, q.p, q.k);
+    put_three(s, 6, q.r, q.b, next);
+}
+
+// Writes section 1 and the counts of sections 2, 3 and 4 around what stands in them.
+pub fn put_counts(image: &mut [u8], q: Params)
+    requires { ⌜ Fits (now image) q ⌝ }
+    ensures { λ _. ⌜ now (image .exit) ≡ image-of q (revisions-in (now (image .entry)) q) (columns-in (now (image .entry)) q) (parities-in (now (image .entry)) q) ⌝ }
+{
+    put_opening(image, 4, q, q.k);
+    put_number(image, q.revision_at(q.k), q.k);
+    put_number(image, q.data_at(q.k), q.r);
+}
+
+// The test of the parameters behind the count at a place.
+pub fn parameters(s: &[u8], at: usize) -> Checked
+    requires { ⌜ at + 10 ≤ length (now s) ⌝ }
+    ensures { λ x. ⌜ x ≡ checkedOf (u16 (now (s .entry)) (at + 2)) (u16 (now (s .entry)) (at + 4)) (u16 (now (s .entry)) (at + 6)) (u16 (now (s .entry)) (at + 8)) ⌝ }
 {
     Params::checked(
-        number(image, 2),
-        number(image, 4),
-        number(image, 6),
-        number(image, 8),
+        number(s, at + 2),
+        number(s, at + 4),
+        number(s, at + 6),
+        number(s, at + 8),
     )
 }
 
@@ -307,7 +345,7 @@ pub fn read(image: &[u8]) -> Reading
     if image.len() < 10 {
         return Reading::Refused(Refusal::Cut);
     }
-    let checked = parameters(image);
+    let checked = parameters(image, 0);
     match checked {
         Checked::Sound(q) => sections(image, q),
         Checked::Refused(e) => Reading::Refused(e),

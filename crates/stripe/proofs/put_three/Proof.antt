@@ -1,9 +1,9 @@
--- `parity::put_three` meets its contract.
+-- `stripe::put_three` meets its contract.
 -- Assumes nothing.
 use borrow.Author.Needs.{needs}
-use Rattle.parity.proofs.Front.{three-written}
-use Rattle.parity.proofs.put_three.Statement.{statement}
-use Rattle.parity.proofs.put_three.Tie as tie
+use Rattle.stripe.proofs.Images.{three-put}
+use Rattle.stripe.proofs.put_three.Statement.{statement}
+use Rattle.stripe.proofs.put_three.Tie as tie
 
 put-number-requires : tie.Need-put-number-requires
 put-number-requires c κs = search needs
@@ -28,7 +28,7 @@ returns c =
     let third = c .before .before in
     let second = third .before .before .before .before in
     let first = second .before .before .before .before in
-    three-written _ _ _ _ _ _ _ _ (third .put-number3 .ensures) (second .put-number2 .ensures) (first .put-number .ensures) (first .before .before .before .pre .0)
+    three-put _ _ _ _ _ _ _ _ (third .put-number3 .ensures) (second .put-number2 .ensures) (first .put-number .ensures) (first .before .before .before .pre .0)
 
 pub put-three-spec : {M : Type 1} → statement M
 put-three-spec =

@@ -1,0 +1,2 @@
+pub mod File
+pub mod Inner
