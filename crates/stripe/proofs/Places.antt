@@ -20,8 +20,8 @@ column-small q a = mul-le-mul {n₁ = rows q} {m₁ = q .b} {n₂ = 60} {m₂ = 
 pub columns-small : (q : Params) (n c : ℕ) → Admitted q → n ≤ q .k + q .r → c ≤ 30720 → n * c ≤ 1873920
 columns-small q n c a h l = mul-le-mul {n₁ = n} {m₁ = c} {n₂ = 61} {m₂ = 30720} (omega arith) l
 
--- "Length L": at most 1874176
-pub image-small : (q : Params) → Admitted q → image-length q ≤ 2000000
+-- "Length L": that of p = 61, k = 60, r = 1, B = 512 at most
+pub image-small : (q : Params) → Admitted q → image-length q ≤ 1874176
 image-small q a = omega (arith, columns-small q (q .k + q .r) (column-length q) a (omega arith) (column-small q a))
 
 -- ---- revisions

@@ -193,7 +193,7 @@ impl Params {
     // The length L of an image.
     pub fn image_length(self) -> usize
         requires { ⌜ Admitted self ⌝ }
-        ensures { λ n. ⌜ (n ≡ image-length self) × (n ≤ 2000000) ⌝ }
+        ensures { λ n. ⌜ (n ≡ image-length self) × (n ≤ 1874176) ⌝ }
     {
         16 + 4 * self.k + self.columns(self.k + self.r)
     }

@@ -2,7 +2,6 @@
 -- Assumes nothing.
 use borrow.Author.Needs.{needs}
 use Rattle.stripe.proofs.Frame.{checked-admitted}
-use Rattle.commands.proofs.Laws.{image-bound}
 use Rattle.commands.proofs.room.Statement.{statement}
 use Rattle.commands.proofs.room.Tie as tie
 
@@ -19,7 +18,7 @@ enum-told : tie.Need-enum-told
 enum-told c = search needs
 
 returns : tie.Need-returns
-returns c = search image-bound
+returns c = search needs
 
 returns-2 : tie.Need-returns-2
 returns-2 c = search needs
