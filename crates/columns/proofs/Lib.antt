@@ -1,0 +1,3 @@
+pub mod Putting
+pub mod Filling
+pub mod Calls

@@ -1,0 +1,3 @@
+pub mod Export
+pub mod Import
+pub mod Inner

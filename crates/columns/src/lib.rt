@@ -1,0 +1,213 @@
+// Column files for the boxes: the file of one column of an image, an image from such files, and how long each of them is.
+use file_by_file::Met;
+use refusal::Outcome;
+use refusal::Refusal;
+use stripe::Params;
+use stripe::Reading;
+ghost use mathlib.Core.Path.{_≡_};
+ghost use Prim.Native.Nat.{_+_, _*_, _≤_};
+ghost use lib.ListN.{length};
+ghost use Rattle.laws.specs.Left.{Leaves};
+ghost use Rattle.laws.specs.Part.{part, put};
+ghost use Rattle.stripe.specs.Layout.{column-length, revision-at};
+ghost use Rattle.stripe.specs.Params.{Admitted};
+ghost use Rattle.stripe.specs.Reading.{Image};
+ghost use Rattle.stripe.specs.Sections.{Fits};
+ghost use Rattle.column_file.specs.File.{column-at, carried, revisions-from, strips-from};
+ghost use Rattle.file_by_file.specs.Files.{first-params};
+ghost use Rattle.file_by_file.specs.Inner.{Files};
+ghost use Rattle.columns.specs.Export.{export-sound, exportOf, file-length-sound, fileLengthOf, measured-value};
+ghost use Rattle.columns.specs.Import.{blank, put-file, filledFrom, absent, import-sound, importOf, filesLengthOf};
+ghost use Rattle.columns.specs.Inner.{Taken, Ready};
+
+// The bytes of the files of all columns of the largest image.
+pub const LARGEST_FILES: usize = (18 + Params::MOST_COLUMNS * Params::LARGEST_STRIP)
+    * Params::LARGEST_PRIME
+    + 4 * Params::MOST_COLUMNS;
+
+// The pattern of the absent columns, or the refusal.
+pub enum Imported {
+    Absent(u64),
+    Refused(Refusal),
+}
+
+// How many bytes there will be, or the refusal.
+pub enum Measured {
+    Bytes(usize),
+    Refused(Refusal),
+}
+
+// ---- the image of files
+
+// Puts the revision of the file of a data column in its place.
+fn put_revisions(files: &[u8], at: usize, q: Params, n: usize, image: &mut [u8])
+    requires { ⌜ Taken (now files) (now image) q at n ⌝ }
+    ensures { λ _. ⌜ now (image .exit) ≡ put (now (image .entry)) (revision-at n) (part (now (files .entry)) (at + revisions-from) (4 * carried q n)) ⌝ }
+{
+    if n < q.k {
+        column_file::copy_part(
+            image,
+            q.revision_at(n),
+            files,
+            at + column_file::REVISIONS_FROM,
+            4,
+        );
+    }
+}
+
+// Puts the strips of the file of column n in their place.
+fn put_strips(files: &[u8], at: usize, q: Params, n: usize, image: &mut [u8])
+    requires { ⌜ Taken (now files) (now image) q at n ⌝ }
+    ensures { λ _. ⌜ now (image .exit) ≡ put (now (image .entry)) (column-at q n) (part (now (files .entry)) (at + strips-from q n) (column-length q)) ⌝ }
+{
+    let from = at + column_file::strips_from(q, n);
+    column_file::copy_part(
+        image,
+        column_file::column_at(q, n),
+        files,
+        from,
+        q.column_length(),
+    );
+}
+
+// Puts the column of a file in its place.
+fn put_file(files: &[u8], at: usize, q: Params, n: usize, image: &mut [u8])
+    requires { ⌜ Taken (now files) (now image) q at n ⌝ }
+    ensures { λ _. ⌜ now (image .exit) ≡ put-file (now (files .entry)) at q n (now (image .entry)) ⌝ }
+{
+    put_revisions(files, at, q, n, image);
+    put_strips(files, at, q, n, image);
+}
+
+// Puts the columns of all files in their place.
+fn fill_all(files: &[u8], q: Params, image: &mut [u8])
+    requires { ⌜ Ready (now files) (now image) q ⌝ }
+    ensures { λ _. ⌜ now (image .exit) ≡ filledFrom (now (files .entry)) q 0 (now (image .entry)) ⌝ }
+{
+    let mut at: usize = 0;
+    while at < files.len() {
+        let n = stripe::number(files, at + column_file::COLUMN_AT);
+        put_file(files, at, q, n, image);
+        at += column_file::length(q, n);
+    }
+}
+
+// The image with every column absent.
+fn put_blank(image: &mut [u8], q: Params)
+    requires { ⌜ Fits (now image) q ⌝ }
+    ensures { λ _. ⌜ now (image .exit) ≡ blank q ⌝ }
+{
+    let n = image.len();
+    engine::clear(image, 0, n);
+    stripe::put_counts(image, q);
+}
+
+// The pattern of the columns that were not met.
+fn absent_of(q: Params, met: u64) -> u64
+    requires { ⌜ Admitted q ⌝ }
+    ensures { λ x. ⌜ x ≡ absent q met ⌝ }
+{
+    let all: u64 = 1 << (q.k + q.r);
+    (met ^ (all - 1)) % all
+}
+
+// The image of files that were all accepted.
+fn import_sound(files: &[u8], q: Params, met: u64, image: &mut [u8]) -> Imported
+    requires { ⌜ Admitted q × Files (now files) q 0 ⌝ }
+    ensures { λ x. ⌜ Leaves (import-sound (now (files .entry)) (now (image .entry)) q met) x (now (image .exit)) ⌝ }
+{
+    if image.len() != q.image_length() {
+        return Imported::Refused(Refusal::Room);
+    }
+    put_blank(image, q);
+    fill_all(files, q, image);
+    Imported::Absent(absent_of(q, met))
+}
+
+// The parameters of the first file.
+fn first_of(files: &[u8]) -> Params
+    requires { ⌜ 10 ≤ length (now files) ⌝ }
+    ensures { λ r. ⌜ r ≡ first-params (now (files .entry)) ⌝ }
+{
+    Params {
+        p: stripe::number(files, 2),
+        k: stripe::number(files, 4),
+        r: stripe::number(files, 6),
+        b: stripe::number(files, 8),
+    }
+}
+
+// Fills the image from column files, one after another, with zeros in the absent columns.
+pub fn import(files: &[u8], image: &mut [u8]) -> Imported
+    ensures { λ x. ⌜ Leaves (importOf (now (files .entry)) (now (image .entry))) x (now (image .exit)) ⌝ }
+{
+    let found = file_by_file::meet(files);
+    let Met::Columns(met) = found else {
+        return Imported::Refused(found.refusal());
+    };
+    import_sound(files, first_of(files), met, image)
+}
+
+// How long the image is that such files make.
+pub fn files_length(files: &[u8]) -> Measured
+    ensures { λ x. ⌜ x ≡ filesLengthOf (now (files .entry)) ⌝ }
+    ensures { λ x. ⌜ measured-value x ≤ 1874176 ⌝ }
+{
+    let found = file_by_file::meet(files);
+    let Met::Columns(_) = found else {
+        return Measured::Refused(found.refusal());
+    };
+    Measured::Bytes(first_of(files).image_length())
+}
+
+// ---- the file of a column
+
+// The file of column n of an accepted image.
+fn export_sound(image: &[u8], q: Params, n: usize, file: &mut [u8]) -> Outcome
+    requires { ⌜ Image (now image) q ⌝ }
+    ensures { λ x. ⌜ Leaves (export-sound (now (image .entry)) n (now (file .entry)) q) x (now (file .exit)) ⌝ }
+{
+    if n >= q.k + q.r {
+        return Outcome::Refused(Refusal::Column);
+    }
+    if file.len() != column_file::length(q, n) {
+        return Outcome::Refused(Refusal::Room);
+    }
+    column_file::fill(image, q, n, file);
+    Outcome::Done
+}
+
+// Writes the file of column n of an image.
+pub fn export(image: &[u8], n: usize, file: &mut [u8]) -> Outcome
+    ensures { λ x. ⌜ Leaves (exportOf (now (image .entry)) n (now (file .entry))) x (now (file .exit)) ⌝ }
+{
+    let reading = stripe::read(image);
+    let Reading::Stripe(q) = reading else {
+        return Outcome::Refused(reading.refusal());
+    };
+    export_sound(image, q, n, file)
+}
+
+// How long the file of column n is.
+fn measure(q: Params, n: usize) -> Measured
+    requires { ⌜ Admitted q ⌝ }
+    ensures { λ x. ⌜ x ≡ file-length-sound n q ⌝ }
+    ensures { λ x. ⌜ measured-value x ≤ 30742 ⌝ }
+{
+    if n >= q.k + q.r {
+        return Measured::Refused(Refusal::Column);
+    }
+    Measured::Bytes(column_file::length(q, n))
+}
+
+// How long the file of column n of an image is.
+pub fn file_length(image: &[u8], n: usize) -> Measured
+    ensures { λ x. ⌜ x ≡ fileLengthOf (now (image .entry)) n ⌝ }
+    ensures { λ x. ⌜ measured-value x ≤ 30742 ⌝ }
+{
+    let reading = stripe::read(image);
+    let Reading::Stripe(q) = reading else {
+        return Measured::Refused(reading.refusal());
+    };
+    measure(q, n)
+}
