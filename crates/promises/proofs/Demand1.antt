@@ -1,6 +1,6 @@
 -- Demand 1: each call gives the first refusal of its list that is due, nothing beside it, and leaves what it was lent.
 -- Assumes nothing.
-use Prim.Native.Nat.{ℕ, _+_, _-_, _*_, _^_, _<_}
+use Prim.Native.Nat.{ℕ, zero, suc, _+_, _-_, _*_, _^_, _<_}
 use mathlib.Core.Bool.{Bool, true, false, not, _&&_}
 use mathlib.Core.List.{List, [], _∷_}
 use mathlib.Core.Logic.{_≢_, inl, inr}
@@ -10,12 +10,14 @@ use native.Mathlib.Omega.{arith}
 use borrow.Author.Tests.{lt-ltb, le-ltb, le-leb, ne-eqb}
 use lib.Dec.{eqb, ltb, leb}
 use lib.ListN.{length}
+use Rattle.laws.specs.Bit.{bit}
 use Rattle.laws.specs.Choose.{choose}
 use Rattle.laws.specs.Left.{Left}
 use Rattle.laws.specs.Number.{u16}
+use Rattle.laws.specs.Xor.{_⊕_}
 use Rattle.algebra.specs.Word.{element}
 use Rattle.refusal.specs.declared.Refusal.{Refusal}
-use Rattle.refusal.specs.declared.Refusal.the-variants.{Cut, Tail, Count, Prime, Shape, Strip, Width, Column, Row, Stale, Ahead, Many, Room, Exponent, Element as NotElement}
+use Rattle.refusal.specs.declared.Refusal.the-variants.{Cut, Tail, Count, Prime, Shape, Strip, Width, Column, Row, Stale, Ahead, Many, Room, Exponent, Foreign, Twice, Element as NotElement}
 use Rattle.refusal.specs.declared.Refusal.the-variants as Refusal
 use Rattle.refusal.specs.declared.Outcome.the-variants.{Refused as Undone}
 use Rattle.refusal.specs.Number.{numberOf}
@@ -39,7 +41,17 @@ use Rattle.write.specs.declared.Written.{Written}
 use Rattle.write.specs.declared.Written.the-variants.{Aged, Refused}
 use Rattle.write.specs.Written.{writeOf, write-read, write-sound, write-judged, by-age, written-number, written-distance}
 use Rattle.away.specs.Away.{awayOf, away-read, away-sound, away-judged}
-use Rattle.promises.specs.Demand1.{Test, _when_, params-then, section-numbers, reading-then, product-order, divide-order, make-order, age-order, write-order, away-order, rebuild-order, strip-order, Result, only-answered, of-element, of-checked, of-reading, of-checkup, of-outcome, of-written, Zeros, none, one-more, Refuses-in-order, distance-due, Demand-1}
+use Rattle.column_file.specs.File.{flag, number-at, flag-at, file-length}
+use Rattle.file_by_file.specs.Files.{numbers-at, first-params, alike, counted, body-step, column-step, checked-step, stepOf, onward, walk}
+use Rattle.file_by_file.specs.declared.Met.{Met}
+use Rattle.file_by_file.specs.declared.Met.the-variants.{Columns, Refused as Unmet}
+use Rattle.file_by_file.specs.declared.Step.{Step}
+use Rattle.file_by_file.specs.declared.Step.the-variants.{File, Refused as Bad}
+use Rattle.columns.specs.declared.Imported.the-variants.{Refused as Unimported}
+use Rattle.columns.specs.declared.Measured.the-variants.{Refused as Unmeasured}
+use Rattle.columns.specs.Export.{export-sound, export-read, exportOf, file-length-sound, file-length-read, fileLengthOf}
+use Rattle.columns.specs.Import.{import-sound, import-met, importOf, files-length-met, filesLengthOf}
+use Rattle.promises.specs.Demand1.{Test, _when_, params-then, section-numbers, reading-then, product-order, divide-order, make-order, age-order, write-order, away-order, rebuild-order, strip-order, file-length-order, export-order, file-then, files-then, all-files-then, import-order, Result, only-answered, of-element, of-checked, of-reading, of-checkup, of-measured, of-outcome, of-written, of-imported, Zeros, none, one-more, Refuses-in-order, distance-due, Demand-1}
 
 -- whichever way a choice goes, where its test is known then; and where it is not asked for
 pub by-test : {A : Type 0} (P : A → Type 0) (b : Bool) (x y : A) → (b ≡ true → P x) → P y → P (choose b x y)
@@ -152,14 +164,14 @@ module _ (s : List ℕ) (l : Left Written) (now : written-number (l .answer) ≡
 
 -- ---- the calls
 
-zero : Zeros (0 ∷ [])
-zero = one-more none
+a-zero : Zeros (0 ∷ [])
+a-zero = one-more none
 
 four-zeros : Zeros (0 ∷ 0 ∷ 0 ∷ 0 ∷ [])
 four-zeros = one-more (one-more (one-more (one-more none)))
 
 no-element : (e : Refusal) → Refused-by e (of-element (Unmade e))
-no-element e = record { number = refl; zeros = zero; same = refl }
+no-element e = record { number = refl; zeros = a-zero; same = refl }
 
 product-ordered : (p u v : ℕ) → Refuses-in-order (product-order p u v) (of-element (product-answer p u v))
 unfolding product-answer
@@ -204,11 +216,11 @@ refill-ordered s = reading-first s (λ w. of-outcome s (refill-read s w)) [] (ke
 
 check-ordered : (s : List ℕ) → Refuses-in-order (reading-then s []) (of-checkup (checkOf s))
 unfolding checkOf check-read
-check-ordered s = reading-first s (λ w. of-checkup (check-read s w)) [] (λ e. record { number = refl; zeros = zero; same = refl }) (accepts _ refl)
+check-ordered s = reading-first s (λ w. of-checkup (check-read s w)) [] (λ e. record { number = refl; zeros = a-zero; same = refl }) (accepts _ refl)
 
 -- a refused write
 kept-image : (s : List ℕ) (e : Refusal) → Refused-by e (of-written s (record { answer = Refused e; image = s }))
-kept-image s e = record { number = refl; zeros = one-more zero; same = refl }
+kept-image s e = record { number = refl; zeros = one-more a-zero; same = refl }
 
 write-ordered : (s : List ℕ) (i t b : ℕ) (v : List ℕ) → Refuses-in-order (write-order s i t b v) (of-written s (writeOf s i t b v))
 unfolding writeOf write-read write-sound write-judged aged
@@ -266,6 +278,80 @@ show-ordered : (s : List ℕ) (m n t room : ℕ) → Refuses-in-order (strip-ord
 unfolding show-number
 show-ordered s m n t room =
     asked-first s m n t room (λ w. only-answered (reading-number w) []) (λ e. record { number = refl; zeros = none; same = refl }) (λ q. refl)
+
+-- ---- column files
+
+unmeasured : (e : Refusal) → Refused-by e (of-measured (Unmeasured e))
+unmeasured e = record { number = refl; zeros = a-zero; same = refl }
+
+measure-ordered : (s : List ℕ) (n : ℕ) → Refuses-in-order (file-length-order s n []) (of-measured (fileLengthOf s n))
+unfolding fileLengthOf file-length-read file-length-sound
+measure-ordered s n =
+    let q : Params = section-numbers s in
+    reading-first s (λ w. of-measured (file-length-read n w)) _ unmeasured
+    (needs-test of-measured Column _ _ (unmeasured Column) (accepts _ refl) (ltb n (q .k + q .r)))
+
+export-ordered : (s : List ℕ) (n : ℕ) (t : List ℕ) → Refuses-in-order (export-order s n (length t)) (of-outcome t (exportOf s n t))
+unfolding exportOf export-read export-sound
+export-ordered s n t =
+    let q : Params = section-numbers s in
+    reading-first s (λ w. of-outcome t (export-read s n t w)) _ (kept-slice t)
+    (needs-test (of-outcome t) Column _ _ (kept-slice t Column)
+    (needs-test (of-outcome t) Room _ _ (kept-slice t Room) (accepts _ refl) (eqb (length t) (file-length q n)))
+    (ltb n (q .k + q .r)))
+
+-- one file, whatever follows it
+file-first : (s : List ℕ) (at met : ℕ) (f : Step → Result) (more : List Test) → ((e : Refusal) → Refused-by e (f (Bad e)))
+    → (let n : ℕ = u16 s (at + number-at) in Refuses-in-order more (f (File n (at + file-length (numbers-at s at) n))))
+    → Refuses-in-order (file-then s at met more) (f (stepOf s at met))
+unfolding stepOf checked-step column-step body-step
+file-first s at met f more bad on =
+    let q : Params = numbers-at s at in
+    let n : ℕ = u16 s (at + number-at) in
+    fails-test f Cut _ _ (bad Cut)
+    (needs-test f Count _ _ (bad Count)
+    (fails-test f Cut _ _ (bad Cut)
+    (params-first (q .p) (q .k) (q .r) (q .b) (λ c. f (checked-step s at met c)) _ bad
+    (needs-test f Column _ _ (bad Column)
+    (needs-test f Foreign _ _ (bad Foreign)
+    (needs-test f Twice _ _ (bad Twice)
+    (fails-test f Cut _ _ (bad Cut)
+    (needs-test f Count _ _ (bad Count) on (counted s at q n))
+    (ltb (length s - at) (file-length q n)))
+    (eqb (bit met n) 0))
+    (alike s at && eqb (u16 s (at + flag-at)) (flag q n)))
+    (ltb n (q .k + q .r))))
+    (ltb (length s - at) 14))
+    (eqb (u16 s at) 6))
+    (ltb (length s - at) 2)
+
+-- all files, whatever follows them
+files-first : (most : ℕ) (s : List ℕ) (at met : ℕ) (f : Met → Result) (more : List Test) → ((e : Refusal) → Refused-by e (f (Unmet e)))
+    → ((m : ℕ) → Refuses-in-order more (f (Columns m))) → Refuses-in-order (files-then most s at met more) (f (walk most s at met))
+unfolding files-then walk onward
+files-first zero s at met f more bad on = refuses Cut _ _ (bad Cut)
+files-first (suc most) s at met f more bad on =
+    let n : ℕ = u16 s (at + number-at) in
+    let to : ℕ = at + file-length (numbers-at s at) n in
+    file-first s at met (λ w. f (onward s met (λ to m. walk most s to m) w)) _ bad
+    (goes (ltb to (length s)) (files-first most s to (met ⊕ 2 ^ n) f more bad on) (on (met ⊕ 2 ^ n)))
+  where
+    goes : (b : Bool) {x y : Met} {l r : List Test} → Refuses-in-order l (f x) → Refuses-in-order r (f y) → Refuses-in-order (choose b l r) (f (choose b x y))
+    goes true h k = h
+    goes false h k = k
+
+import-ordered : (s t : List ℕ) → Refuses-in-order (import-order s (length t)) (of-imported t (importOf s t))
+unfolding importOf import-met import-sound
+import-ordered s t =
+    files-first (length s - 0) s 0 0 (λ w. of-imported t (import-met s t w)) _ unfilled
+    (λ m. needs-test (of-imported t) Room _ _ (unfilled Room) (accepts _ refl) (eqb (length t) (image-length (first-params s))))
+  where
+    unfilled : (e : Refusal) → Refused-by e (of-imported t (record { answer = Unimported e; image = t }))
+    unfilled e = record { number = refl; zeros = a-zero; same = refl }
+
+measure-all-ordered : (s : List ℕ) → Refuses-in-order (all-files-then s []) (of-measured (filesLengthOf s))
+unfolding filesLengthOf files-length-met
+measure-all-ordered s = files-first (length s - 0) s 0 0 (λ w. of-measured (files-length-met s w)) [] unmeasured (λ m. accepts _ refl)
 
 -- ---- beside the refusals of a write
 
@@ -352,6 +438,10 @@ demand-1 = record {
   rebuild = rebuild-ordered;
   restore = restore-ordered;
   show = show-ordered;
+  export = export-ordered;
+  import = import-ordered;
+  file-length = measure-ordered;
+  files-length = measure-all-ordered;
   write-distance = write-beside;
   away-distance = away-beside;
   show-empty = show-nothing;

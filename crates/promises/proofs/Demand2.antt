@@ -51,7 +51,7 @@ use Rattle.promises.proofs.Solved.{whole-only, recovered-solves}
 use Rattle.promises.specs.Demand2.{Pattern, Larger, Comes-to, Made, Refilled, Checked, Alike, Same-consulted, Demand-2}
 
 -- what a call comes to, by what it leaves
-comes : (x : Outcome) {l : Left Outcome} {z : List ℕ} → l ≡ record { answer = x; image = z } → Comes-to l (outcome-number x) z
+pub comes : (x : Outcome) {l : Left Outcome} {z : List ℕ} → l ≡ record { answer = x; image = z } → Comes-to l (outcome-number x) z
 comes x e = record { answered = ap (λ (l : Left Outcome). outcome-number (l .answer)) e; left = ap (λ (l : Left Outcome). l .image) e }
 
 -- ---- as rebuild answers it

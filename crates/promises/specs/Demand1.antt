@@ -2,19 +2,21 @@
 -- lent byte." Document 01: "A refusal carries its number; every number beside it is 0; no lent byte changes." Request 2: "On STALE and AHEAD, document 01's
 -- rule that numbers beside a refusal are 0 gives way to this distance."
 -- Assumes nothing.
-use Prim.Native.Nat.{ℕ, _+_, _-_, _*_, _^_}
-use mathlib.Core.Bool.{Bool, not, _&&_}
+use Prim.Native.Nat.{ℕ, zero, suc, _+_, _-_, _*_, _^_}
+use mathlib.Core.Bool.{Bool, true, not, _&&_}
 use mathlib.Core.List.{List, [], _∷_}
 use mathlib.Core.Logic.{_≢_, _⊎_}
 use mathlib.Core.Path.{_≡_}
 use lib.Dec.{eqb, ltb, leb}
 use lib.ListN.{length}
+use Rattle.laws.specs.Bit.{bit}
 use Rattle.laws.specs.Choose.{choose}
 use Rattle.laws.specs.Left.{Left}
 use Rattle.laws.specs.Number.{u16}
+use Rattle.laws.specs.Xor.{_⊕_}
 use Rattle.algebra.specs.Word.{element}
 use Rattle.refusal.specs.declared.Refusal.{Refusal}
-use Rattle.refusal.specs.declared.Refusal.the-variants.{Cut, Tail, Count, Prime, Shape, Strip, Width, Column, Row, Stale, Ahead, Many, Room, Exponent, Unclear, Element as NotElement}
+use Rattle.refusal.specs.declared.Refusal.the-variants.{Cut, Tail, Count, Prime, Shape, Strip, Width, Column, Row, Stale, Ahead, Many, Room, Exponent, Unclear, Foreign, Twice, Element as NotElement}
 use Rattle.refusal.specs.declared.Outcome.{Outcome}
 use Rattle.refusal.specs.Number.{numberOf}
 use Rattle.stripe.specs.declared.Params.{Params}
@@ -33,6 +35,12 @@ use Rattle.revision.specs.Revision.{distance}
 use Rattle.write.specs.declared.Written.{Written}
 use Rattle.write.specs.Written.{writeOf, written-number, written-revision, written-count, written-distance}
 use Rattle.away.specs.Away.{awayOf}
+use Rattle.column_file.specs.File.{flag, number-at, flag-at, file-length}
+use Rattle.file_by_file.specs.Files.{numbers-at, first-params, alike, counted}
+use Rattle.columns.specs.declared.Imported.{Imported}
+use Rattle.columns.specs.declared.Measured.{Measured}
+use Rattle.columns.specs.Export.{exportOf, fileLengthOf, measured-number, measured-value}
+use Rattle.columns.specs.Import.{importOf, filesLengthOf, imported-number, imported-value}
 
 -- ---- a call's refusals in their order, each with the test by which it is due
 
@@ -153,6 +161,51 @@ strip-order s m n t room =
     (Room when not (leb (q .b) room)) ∷
     [])
 
+-- request 4: "export gives reading's, COLUMN, then ROOM for a lent slice not of the file's length"
+abbrev pub file-length-order : List ℕ → ℕ → List Test → List Test
+file-length-order s n more =
+    let q : Params = section-numbers s in
+    reading-then s ((Column when not (ltb n (q .k + q .r))) ∷ more)
+
+abbrev pub export-order : List ℕ → ℕ → ℕ → List Test
+export-order s n room = file-length-order s n ((Room when not (eqb room (file-length (section-numbers s) n))) ∷ [])
+
+-- request 4: "Import takes file by file", the file at a place, where met has the bits of the columns before it; then what follows an accepted file
+abbrev pub file-then : List ℕ → ℕ → ℕ → List Test → List Test
+file-then s at met more =
+    let q : Params = numbers-at s at in
+    let n : ℕ = u16 s (at + number-at) in
+    -- "CUT below 2 bytes (also for no file at all), section one's COUNT, CUT below 14, PRIME, SHAPE, STRIP"
+    (Cut when ltb (length s - at) 2) ∷
+    (Count when not (eqb (u16 s at) 6)) ∷
+    (Cut when ltb (length s - at) 14) ∷
+    params-then (q .p) (q .k) (q .r) (q .b)
+    -- "COLUMN for n not below k+r"
+    ((Column when not (ltb n (q .k + q .r))) ∷
+    -- "18 FOREIGN for parameters unlike the first file's or a flag wrong for n, 19 TWICE for a column met again"
+    (Foreign when not (alike s at && eqb (u16 s (at + flag-at)) (flag q n))) ∷
+    (Twice when not (eqb (bit met n) 0)) ∷
+    -- "CUT, the other counts"
+    (Cut when ltb (length s - at) (file-length q n)) ∷
+    (Count when not (counted s at q n)) ∷
+    more)
+
+-- so many files at most, from a place on, then what follows all files; where no byte is left there is no file
+unfoldable pub files-then : ℕ → List ℕ → ℕ → ℕ → List Test → List Test
+files-then zero s at met more = (Cut when true) ∷ more
+files-then (suc most) s at met more =
+    let n : ℕ = u16 s (at + number-at) in
+    let to : ℕ = at + file-length (numbers-at s at) n in
+    file-then s at met (choose (ltb to (length s)) (files-then most s to (met ⊕ 2 ^ n) more) more)
+
+-- each file has bytes, so that there are no more files than bytes
+abbrev pub all-files-then : List ℕ → List Test → List Test
+all-files-then s more = files-then (length s - 0) s 0 0 more
+
+-- "after all files, ROOM for an image not of L bytes"
+abbrev pub import-order : List ℕ → ℕ → List Test
+import-order s room = all-files-then s ((Room when not (eqb room (image-length (first-params s)))) ∷ [])
+
 -- ---- what a call comes to, by the documents' numbers
 
 -- its refusal, 0 where there is none; the other numbers of its answer; the slice that it is lent to change, before and after
@@ -178,6 +231,9 @@ of-reading a = only-answered (reading-number a) (reading-values a)
 abbrev pub of-checkup : Checkup → Result
 of-checkup a = only-answered (checkup-number a) (checkup-value a ∷ [])
 
+abbrev pub of-measured : Measured → Result
+of-measured a = only-answered (measured-number a) (measured-value a ∷ [])
+
 -- of a call that is lent s
 abbrev pub of-outcome : List ℕ → Left Outcome → Result
 of-outcome s l = record { refusal = outcome-number (l .answer); beside = []; lent = s; left = l .image }
@@ -190,6 +246,9 @@ of-written s l =
       lent = s;
       left = l .image;
     }
+
+abbrev pub of-imported : List ℕ → Left Imported → Result
+of-imported s l = record { refusal = imported-number (l .answer); beside = imported-value (l .answer) ∷ []; lent = s; left = l .image }
 
 -- ---- the demand
 
@@ -226,6 +285,10 @@ pub record Demand-1 : Type 0 where
   pub rebuild : (s : List ℕ) (m : ℕ) → Refuses-in-order (rebuild-order s m) (of-outcome s (rebuildOf s m))
   pub restore : (s : List ℕ) (m n t : ℕ) (c : List ℕ) → Refuses-in-order (strip-order s m n t (length c)) (of-outcome c (restoreOf s m n t c))
   pub show : (s : List ℕ) (m n t room : ℕ) → Refuses-in-order (strip-order s m n t room) (only-answered (show-number s m n t room) [])
+  pub export : (s : List ℕ) (n : ℕ) (t : List ℕ) → Refuses-in-order (export-order s n (length t)) (of-outcome t (exportOf s n t))
+  pub import : (s t : List ℕ) → Refuses-in-order (import-order s (length t)) (of-imported t (importOf s t))
+  pub file-length : (s : List ℕ) (n : ℕ) → Refuses-in-order (file-length-order s n []) (of-measured (fileLengthOf s n))
+  pub files-length : (s : List ℕ) → Refuses-in-order (all-files-then s []) (of-measured (filesLengthOf s))
   -- the distance of both writes
   pub write-distance : (s : List ℕ) (i t b : ℕ) (v : List ℕ) → let a = writeOf s i t b v .answer in written-distance a ≡ distance-due (written-number a) (revisionOf s i) b
   pub away-distance : (s : List ℕ) (m i t b : ℕ) (v : List ℕ) → let a = awayOf s m i t b v .answer in written-distance a ≡ distance-due (written-number a) (revisionOf s i) b

@@ -1,0 +1,8 @@
+pub mod Marks
+pub mod Files
+pub mod Walked
+pub mod Placing
+pub mod Spots
+pub mod Shape
+pub mod Round
+pub mod Examples
