@@ -6,7 +6,6 @@ use stripe::Params;
 use stripe::Reading;
 ghost use mathlib.Core.Path.{_≡_};
 ghost use Prim.Native.Nat.{_+_, _*_, _≤_};
-ghost use lib.ListN.{length};
 ghost use Rattle.laws.specs.Left.{Leaves};
 ghost use Rattle.laws.specs.Part.{part, put};
 ghost use Rattle.stripe.specs.Layout.{column-length, revision-at};
@@ -14,7 +13,6 @@ ghost use Rattle.stripe.specs.Params.{Admitted};
 ghost use Rattle.stripe.specs.Reading.{Image};
 ghost use Rattle.stripe.specs.Sections.{Fits};
 ghost use Rattle.column_file.specs.File.{column-at, carried, revisions-from, strips-from};
-ghost use Rattle.file_by_file.specs.Files.{first-params};
 ghost use Rattle.file_by_file.specs.Inner.{Files};
 ghost use Rattle.columns.specs.Export.{export-sound, exportOf, file-length-sound, fileLengthOf, measured-value};
 ghost use Rattle.columns.specs.Import.{blank, put-file, filledFrom, absent, import-sound, importOf, filesLengthOf};
@@ -124,19 +122,6 @@ fn import_sound(files: &[u8], q: Params, met: u64, image: &mut [u8]) -> Imported
     Imported::Absent(absent_of(q, met))
 }
 
-// The parameters of the first file.
-fn first_of(files: &[u8]) -> Params
-    requires { ⌜ 10 ≤ length (now files) ⌝ }
-    ensures { λ r. ⌜ r ≡ first-params (now (files .entry)) ⌝ }
-{
-    Params {
-        p: stripe::number(files, 2),
-        k: stripe::number(files, 4),
-        r: stripe::number(files, 6),
-        b: stripe::number(files, 8),
-    }
-}
-
 // Fills the image from column files, one after another, with zeros in the absent columns.
 pub fn import(files: &[u8], image: &mut [u8]) -> Imported
     ensures { λ x. ⌜ Leaves (importOf (now (files .entry)) (now (image .entry))) x (now (image .exit)) ⌝ }
@@ -145,7 +130,7 @@ pub fn import(files: &[u8], image: &mut [u8]) -> Imported
     let Met::Columns(met) = found else {
         return Imported::Refused(found.refusal());
     };
-    import_sound(files, first_of(files), met, image)
+    import_sound(files, stripe::numbers(files, 0), met, image)
 }
 
 // How long the image is that such files make.
@@ -157,7 +142,7 @@ pub fn files_length(files: &[u8]) -> Measured
     let Met::Columns(_) = found else {
         return Measured::Refused(found.refusal());
     };
-    Measured::Bytes(first_of(files).image_length())
+    Measured::Bytes(stripe::numbers(files, 0).image_length())
 }
 
 // ---- the file of a column

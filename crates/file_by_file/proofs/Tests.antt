@@ -17,6 +17,7 @@ use Rattle.laws.specs.Xor.{_⊕_}
 use Rattle.refusal.specs.declared.Refusal.{Refusal}
 use Rattle.refusal.specs.declared.Refusal.the-variants.{Cut, Count, Column, Foreign, Twice}
 use Rattle.stripe.specs.Params.{checkedOf}
+use Rattle.stripe.specs.Sections.{numbers-at}
 use Rattle.stripe.specs.declared.Checked.{Checked}
 use Rattle.stripe.specs.declared.Checked.the-variants.{Sound, Refused as Unsound}
 use Rattle.stripe.specs.declared.Params.{Params}
@@ -35,29 +36,47 @@ is-not x y z w e f n = ne-eqb y w (λ g. n (e ∙ g ∙ sym f))
 
 -- ---- the ways out of `is_alike`
 
-module _ (s : List ℕ) (at a a′ : ℕ) (ha : a ≡ u16 s (at + 2)) (ha′ : a′ ≡ u16 s 2) where
-  pub unlike-p : (a ≡ a′ → ⊥) → false ≡ alike s at
+module _ (s : List ℕ) (at : ℕ) (q f : Params) (hq : q ≡ numbers-at s at) (hf : f ≡ numbers-at s 0) where
+  p-is : (u16 s (at + 2) ≡ q .p) × (u16 s 2 ≡ f .p)
+  p-is = (sym (ap (λ (x : Params). x .p) hq), sym (ap (λ (x : Params). x .p) hf))
+
+  k-is : (u16 s (at + 4) ≡ q .k) × (u16 s 4 ≡ f .k)
+  k-is = (sym (ap (λ (x : Params). x .k) hq), sym (ap (λ (x : Params). x .k) hf))
+
+  r-is : (u16 s (at + 6) ≡ q .r) × (u16 s 6 ≡ f .r)
+  r-is = (sym (ap (λ (x : Params). x .r) hq), sym (ap (λ (x : Params). x .r) hf))
+
+  b-is : (u16 s (at + 8) ≡ q .b) × (u16 s 8 ≡ f .b)
+  b-is = (sym (ap (λ (x : Params). x .b) hq), sym (ap (λ (x : Params). x .b) hf))
+
+  same : (x y z w : ℕ) → (x ≡ z) × (y ≡ w) → z ≡ w → eqb x y ≡ true
+  same x y z w h e = eq-eqb x y (h .0 ∙ e ∙ sym (h .1))
+
+  unlike : (x y z w : ℕ) → (x ≡ z) × (y ≡ w) → (z ≡ w → ⊥) → eqb x y ≡ false
+  unlike x y z w h n = ne-eqb x y (λ e. n (sym (h .0) ∙ e ∙ h .1))
+
+  pub unlike-p : (q .p ≡ f .p → ⊥) → false ≡ alike s at
   unfolding alike
-  unlike-p n = simp (is-not a _ a′ _ ha ha′ n)
+  unlike-p n = simp (unlike _ _ _ _ p-is n)
 
-  module _ (ea : a ≡ a′) (b b′ : ℕ) (hb : b ≡ u16 s (at + 4)) (hb′ : b′ ≡ u16 s 4) where
-    pub unlike-k : (b ≡ b′ → ⊥) → false ≡ alike s at
+  module _ (ep : q .p ≡ f .p) where
+    pub unlike-k : (q .k ≡ f .k → ⊥) → false ≡ alike s at
     unfolding alike
-    unlike-k n = simp (is a _ a′ _ ha ha′ ea, is-not b _ b′ _ hb hb′ n)
+    unlike-k n = simp (same _ _ _ _ p-is ep, unlike _ _ _ _ k-is n)
 
-    module _ (eb : b ≡ b′) (c c′ : ℕ) (hc : c ≡ u16 s (at + 6)) (hc′ : c′ ≡ u16 s 6) where
-      pub unlike-r : (c ≡ c′ → ⊥) → false ≡ alike s at
+    module _ (ek : q .k ≡ f .k) where
+      pub unlike-r : (q .r ≡ f .r → ⊥) → false ≡ alike s at
       unfolding alike
-      unlike-r n = simp (is a _ a′ _ ha ha′ ea, is b _ b′ _ hb hb′ eb, is-not c _ c′ _ hc hc′ n)
+      unlike-r n = simp (same _ _ _ _ p-is ep, same _ _ _ _ k-is ek, unlike _ _ _ _ r-is n)
 
-      module _ (ec : c ≡ c′) (d d′ : ℕ) (hd : d ≡ u16 s (at + 8)) (hd′ : d′ ≡ u16 s 8) where
-        pub unlike-b : (d ≡ d′ → ⊥) → false ≡ alike s at
+      module _ (er : q .r ≡ f .r) where
+        pub unlike-b : (q .b ≡ f .b → ⊥) → false ≡ alike s at
         unfolding alike
-        unlike-b n = simp (is a _ a′ _ ha ha′ ea, is b _ b′ _ hb hb′ eb, is c _ c′ _ hc hc′ ec, is-not d _ d′ _ hd hd′ n)
+        unlike-b n = simp (same _ _ _ _ p-is ep, same _ _ _ _ k-is ek, same _ _ _ _ r-is er, unlike _ _ _ _ b-is n)
 
-        pub all-alike : d ≡ d′ → true ≡ alike s at
+        pub all-alike : q .b ≡ f .b → true ≡ alike s at
         unfolding alike
-        all-alike ed = simp (is a _ a′ _ ha ha′ ea, is b _ b′ _ hb hb′ eb, is c _ c′ _ hc hc′ ec, is d _ d′ _ hd hd′ ed)
+        all-alike eb = simp (same _ _ _ _ p-is ep, same _ _ _ _ k-is ek, same _ _ _ _ r-is er, same _ _ _ _ b-is eb)
 
 -- ---- the ways out of `is_counted`
 

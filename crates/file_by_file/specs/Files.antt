@@ -14,6 +14,7 @@ use Rattle.laws.specs.Xor.{_⊕_}
 use Rattle.refusal.specs.declared.Refusal.the-variants.{Cut, Count, Column, Foreign, Twice}
 use Rattle.stripe.specs.Layout.{rows}
 use Rattle.stripe.specs.Params.{checkedOf}
+use Rattle.stripe.specs.Sections.{numbers-at}
 use Rattle.stripe.specs.declared.Checked.{Checked}
 use Rattle.stripe.specs.declared.Checked.the-variants.{Sound, Refused as Unsound}
 use Rattle.stripe.specs.declared.Params.{Params}
@@ -24,10 +25,6 @@ use Rattle.file_by_file.specs.declared.Step.{Step}
 use Rattle.file_by_file.specs.declared.Step.the-variants.{File, Refused as Bad}
 
 -- ---- one file, at a place of the slice; met has the bits of the columns before it
-
--- "p, k, r, B" of the file at a place
-abbrev pub numbers-at : List ℕ → ℕ → Params
-numbers-at s at = record { p = u16 s (at + 2); k = u16 s (at + 4); r = u16 s (at + 6); b = u16 s (at + 8) }
 
 -- the parameters of the first file
 abbrev pub first-params : List ℕ → Params

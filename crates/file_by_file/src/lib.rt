@@ -50,16 +50,18 @@ fn is_alike(files: &[u8], at: usize) -> bool
     requires { ⌜ at + 14 ≤ length (now files) ⌝ }
     ensures { λ x. ⌜ x ≡ alike (now (files .entry)) at ⌝ }
 {
-    if stripe::number(files, at + 2) != stripe::number(files, 2) {
+    let q = stripe::numbers(files, at);
+    let first = stripe::numbers(files, 0);
+    if q.p != first.p {
         return false;
     }
-    if stripe::number(files, at + 4) != stripe::number(files, 4) {
+    if q.k != first.k {
         return false;
     }
-    if stripe::number(files, at + 6) != stripe::number(files, 6) {
+    if q.r != first.r {
         return false;
     }
-    if stripe::number(files, at + 8) != stripe::number(files, 8) {
+    if q.b != first.b {
         return false;
     }
     true

@@ -29,6 +29,7 @@ use Rattle.stripe.specs.declared.Reading.the-variants.{Stripe, Refused as Unrea
 use Rattle.stripe.specs.Layout.{rows, column-length, data-count-at, parity-count-at, image-length, revisionOf}
 use Rattle.stripe.specs.Params.{admitted-prime, admitted-shape, admitted-strip, checkedOf}
 use Rattle.stripe.specs.Reading.{readOf, withParams, sectionsOf, reading-number}
+use Rattle.stripe.specs.Sections.{numbers-at}
 use Rattle.ring.specs.declared.Element.the-variants.{Refused as Unmade}
 use Rattle.ring.specs.Answer.{different, product-answer, divide-answer}
 use Rattle.parity.specs.Answer.{makeOf, make-checked, make-sound, refillOf, refill-read, checkOf, check-read}
@@ -42,7 +43,7 @@ use Rattle.write.specs.declared.Written.the-variants.{Aged, Refused}
 use Rattle.write.specs.Written.{writeOf, write-read, write-sound, write-judged, by-age, written-number, written-distance}
 use Rattle.away.specs.Away.{awayOf, away-read, away-sound, away-judged}
 use Rattle.column_file.specs.File.{flag, number-at, flag-at, file-length}
-use Rattle.file_by_file.specs.Files.{numbers-at, first-params, alike, counted, body-step, column-step, checked-step, stepOf, onward, walk}
+use Rattle.file_by_file.specs.Files.{first-params, alike, counted, body-step, column-step, checked-step, stepOf, onward, walk}
 use Rattle.file_by_file.specs.declared.Met.{Met}
 use Rattle.file_by_file.specs.declared.Met.the-variants.{Columns, Refused as Unmet}
 use Rattle.file_by_file.specs.declared.Step.{Step}

@@ -25,6 +25,7 @@ use Rattle.stripe.specs.declared.Reading.{Reading}
 use Rattle.stripe.specs.Layout.{rows, column-length, data-count-at, parity-count-at, image-length, revisionOf}
 use Rattle.stripe.specs.Params.{admitted-prime, admitted-shape, admitted-strip, checkedOf, checked-number, checked-values}
 use Rattle.stripe.specs.Reading.{readOf, reading-number, reading-values}
+use Rattle.stripe.specs.Sections.{numbers-at}
 use Rattle.ring.specs.declared.Element.{Element}
 use Rattle.ring.specs.Answer.{different, product-answer, divide-answer, element-number, element-value}
 use Rattle.parity.specs.declared.Checkup.{Checkup}
@@ -36,7 +37,7 @@ use Rattle.write.specs.declared.Written.{Written}
 use Rattle.write.specs.Written.{writeOf, written-number, written-revision, written-count, written-distance}
 use Rattle.away.specs.Away.{awayOf}
 use Rattle.column_file.specs.File.{flag, number-at, flag-at, file-length}
-use Rattle.file_by_file.specs.Files.{numbers-at, first-params, alike, counted}
+use Rattle.file_by_file.specs.Files.{first-params, alike, counted}
 use Rattle.columns.specs.declared.Imported.{Imported}
 use Rattle.columns.specs.declared.Measured.{Measured}
 use Rattle.columns.specs.Export.{exportOf, fileLengthOf, measured-number, measured-value}
@@ -67,7 +68,7 @@ params-then p k r b more =
 
 -- "p, k, r, B (16 bits each)" of section 1
 abbrev pub section-numbers : List ℕ → Params
-section-numbers s = record { p = u16 s 2; k = u16 s 4; r = u16 s 6; b = u16 s 8 }
+section-numbers s = numbers-at s 0
 
 -- "Reading tests in this order", then what follows an accepted image
 abbrev pub reading-then : List ℕ → List Test → List Test

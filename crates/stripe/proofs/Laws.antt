@@ -2,18 +2,23 @@
 -- Assumes nothing.
 use Prim.Native.Nat.{ℕ, _+_, _%_, _<_, _≤_}
 use mathlib.Core.Bool.{Bool, true, false, not, _&&_}
+use mathlib.Core.List.{List}
 use mathlib.Core.Logic.{_≢_}
-use mathlib.Core.Path.{_≡_, refl, sym, _∙_}
+use mathlib.Core.Path.{_≡_, refl, sym, ap, _∙_}
 use native.Mathlib.Decide.{ℕ-discrete}
 use native.Mathlib.Omega.{arith}
 use lib.Dec.{leb, T, leb→le, le→leb}
 use borrow.Author.Tests.{le-leb, not-true, not-false}
 use Rattle.laws.proofs.Choose.{and-left, and-right, both-T, T-true}
+use Rattle.laws.specs.Number.{u16}
 use Rattle.algebra.proofs.Prime.{OddPrime, prime-is, is-prime}
 use Rattle.algebra.specs.Prime.{odd-prime}
 use Rattle.refusal.specs.declared.Refusal.the-variants.{Prime, Shape, Strip}
 use Rattle.stripe.specs.Params.{admitted-prime, admitted-shape, admitted-strip, checkedOf}
+use Rattle.stripe.specs.Sections.{numbers-at}
+use Rattle.stripe.specs.declared.Checked.{Checked}
 use Rattle.stripe.specs.declared.Checked.the-variants.{Sound, Refused}
+use Rattle.stripe.specs.declared.Params.{Params}
 
 -- no number from 2 to below n divides p
 abbrev pub Undivided : ℕ → ℕ → Type 0
@@ -99,3 +104,9 @@ module _ (p k r b : ℕ) (x : Bool) (e : x ≡ admitted-prime p) where
       pub sound : not z ≡ false → Sound (record { p = p; k = k; r = r; b = b }) ≡ checkedOf p k r b
       unfolding checkedOf
       sound h = simp (sym e ∙ not-false x o, sym f ∙ not-false y n, sym g ∙ not-false z h)
+
+-- ---- `parameters`: the numbers at a place, tested
+
+pub numbers-checked : (s : List ℕ) (at : ℕ) (q : Params) (x : Checked) → q ≡ numbers-at s at → x ≡ checkedOf (q .p) (q .k) (q .r) (q .b)
+    → x ≡ checkedOf (u16 s (at + 2)) (u16 s (at + 4)) (u16 s (at + 6)) (u16 s (at + 8))
+numbers-checked s at q x e f = f ∙ ap (λ (n : Params). checkedOf (n .p) (n .k) (n .r) (n .b)) e

@@ -1,11 +1,11 @@
 -- "Four sections stand in this order, each after a 16-bit count": an image written out from what stands in its sections, and the opening that it shares
 -- with the file of a column.
 -- Assumes nothing.
-use Prim.Native.Nat.{ℕ, _*_}
+use Prim.Native.Nat.{ℕ, _+_, _*_}
 use mathlib.Core.List.{List, _++_}
 use mathlib.Core.Path.{_≡_}
 use lib.ListN.{length}
-use Rattle.laws.specs.Number.{byte}
+use Rattle.laws.specs.Number.{byte, u16}
 use Rattle.laws.specs.Part.{part, put, tab}
 use Rattle.stripe.specs.Layout.{column-length, revision-at, data-from, parity-from, image-length}
 use Rattle.stripe.specs.Params.{Admitted}
@@ -18,6 +18,10 @@ sixteen v = tab 2 (byte v)
 -- "p, k, r, B (16 bits each)"
 abbrev pub four-numbers : Params → List ℕ
 four-numbers q = sixteen (q .p) ++ sixteen (q .k) ++ sixteen (q .r) ++ sixteen (q .b)
+
+-- those that stand behind the count at a place, whatever they are
+abbrev pub numbers-at : List ℕ → ℕ → Params
+numbers-at s at = record { p = u16 s (at + 2); k = u16 s (at + 4); r = u16 s (at + 6); b = u16 s (at + 8) }
 
 -- "1. count 4, then p, k, r, B (16 bits each)"
 abbrev pub section-1 : Params → List ℕ

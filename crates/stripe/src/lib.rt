@@ -7,7 +7,7 @@ ghost use Rattle.laws.specs.Number.{u16, u32, put16, put32};
 ghost use Rattle.stripe.specs.Params.{admitted-prime, admitted-shape, admitted-strip, checkedOf, Admitted};
 ghost use Rattle.stripe.specs.Layout.{rows, column-length, revision-at, data-at, strip-at, parity-at, parity-strip-at, image-length};
 ghost use Rattle.stripe.specs.Reading.{sectionsOf, readOf, refusal-given};
-ghost use Rattle.stripe.specs.Sections.{sixteen, three, opening, Put-in, Fits, image-of, revisions-in, columns-in, parities-in};
+ghost use Rattle.stripe.specs.Sections.{numbers-at, sixteen, three, opening, Put-in, Fits, image-of, revisions-in, columns-in, parities-in};
 
 // The parameters p, k, r and B of a stripe.
 pub struct Params {
@@ -294,17 +294,26 @@ pub fn put_counts(image: &mut [u8], q: Params)
     put_number(image, q.data_at(q.k), q.r);
 }
 
+// The numbers p, k, r and B behind the count at a place, whatever they are.
+pub fn numbers(s: &[u8], at: usize) -> Params
+    requires { ⌜ at + 10 ≤ length (now s) ⌝ }
+    ensures { λ q. ⌜ q ≡ numbers-at (now (s .entry)) at ⌝ }
+{
+    Params {
+        p: number(s, at + 2),
+        k: number(s, at + 4),
+        r: number(s, at + 6),
+        b: number(s, at + 8),
+    }
+}
+
 // The test of the parameters behind the count at a place.
 pub fn parameters(s: &[u8], at: usize) -> Checked
     requires { ⌜ at + 10 ≤ length (now s) ⌝ }
     ensures { λ x. ⌜ x ≡ checkedOf (u16 (now (s .entry)) (at + 2)) (u16 (now (s .entry)) (at + 4)) (u16 (now (s .entry)) (at + 6)) (u16 (now (s .entry)) (at + 8)) ⌝ }
 {
-    Params::checked(
-        number(s, at + 2),
-        number(s, at + 4),
-        number(s, at + 6),
-        number(s, at + 8),
-    )
+    let q = numbers(s, at);
+    Params::checked(q.p, q.k, q.r, q.b)
 }
 
 // The reading of an image whose parameters are sound: its length, and the counts of sections 2, 3 and 4.

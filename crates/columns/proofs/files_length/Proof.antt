@@ -21,8 +21,8 @@ refusal-requires c κs = search needs
 returns : tie.Need-returns
 returns c = (search files-unmeasured, omega arith)
 
-first-of-requires : tie.Need-first-of-requires
-first-of-requires c κs = search first-there
+numbers-requires : tie.Need-numbers-requires
+numbers-requires c κs = search first-there
 
 image-length-requires : tie.Need-image-length-requires
 image-length-requires c κs = search first-admitted
@@ -39,6 +39,6 @@ files-length-spec =
     enum-told-2
     refusal-requires
     returns
-    first-of-requires
+    numbers-requires
     image-length-requires
     returns-2)

@@ -20,8 +20,8 @@ refusal-requires c κs = search needs
 returns : tie.Need-returns
 returns c = search import-refused
 
-first-of-requires : tie.Need-first-of-requires
-first-of-requires c κs = search first-there
+numbers-requires : tie.Need-numbers-requires
+numbers-requires c κs = search first-there
 
 import-sound-requires : tie.Need-import-sound-requires
 import-sound-requires c κs = (search first-admitted, search first-files)
@@ -41,7 +41,7 @@ import-spec =
     enum-told
     refusal-requires
     returns
-    first-of-requires
+    numbers-requires
     import-sound-requires
     same-length
     returns-2)
