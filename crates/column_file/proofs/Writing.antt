@@ -16,7 +16,7 @@ use Rattle.stripe.specs.Layout.{column-length, revision-at}
 use Rattle.stripe.specs.Sections.{sixteen, opening, Put-in}
 use Rattle.stripe.specs.declared.Params.{Params}
 use Rattle.column_file.specs.File.{column-at, flag, carried, flag-at, carried-at, revisions-from, strips-count-at, strips-from, file-length, file-of, revisions-of, strips-of, fileOf}
-use Rattle.column_file.specs.Inner.{Column, Empty, Asked}
+use Rattle.column_file.specs.Inner.{Column-of, Empty, Asked}
 use Rattle.column_file.proofs.Columns.{carried-data, carried-parity, column-in, length-revisions, length-strips}
 
 -- ---- `copy_part`: the part as the code has it
@@ -88,7 +88,7 @@ module _ (s t : List ℕ) (q : Params) (n : ℕ) (A : Asked s t q n) where
   pub asked-strips : (to from m : ℕ) → to ≡ strips-from q n → from ≡ column-at q n → m ≡ column-length q → Strip t s to from m
   asked-strips to from m f e g = record { there = omega (arith, A .room); here = omega (arith, column-in q n (A .below), A .image .len) }
 
-  pub asked-column : Column q n
+  pub asked-column : Column-of q n
   asked-column = record { admitted = A .image .admitted; below = A .below }
 
 module _ (s t u : List ℕ) (q : Params) (n from : ℕ) where

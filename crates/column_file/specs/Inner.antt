@@ -10,13 +10,13 @@ use Rattle.stripe.specs.declared.Params.{Params}
 use Rattle.column_file.specs.File.{file-length}
 
 -- a column of a stripe
-pub record Column (q : Params) (n : ℕ) : Type 0 where
+pub record Column-of (q : Params) (n : ℕ) : Type 0 where
   pub admitted : Admitted q
   pub below : n < q .k + q .r
 
 -- a column, and a slice of its file's length
 pub record Empty (t : List ℕ) (q : Params) (n : ℕ) : Type 0 where
-  pub column : Column q n
+  pub column : Column-of q n
   pub room : length t ≡ file-length q n
 
 -- an image, a column of it, and a slice of its file's length

@@ -7,7 +7,7 @@ ghost use Rattle.engine.specs.Strips.{Strip};
 ghost use Rattle.stripe.specs.Layout.{column-length};
 ghost use Rattle.stripe.specs.Params.{Admitted};
 ghost use Rattle.column_file.specs.File.{column-at, flag, carried, revisions-from, strips-count-at, strips-from, file-length, file-of, revisions-of, strips-of, fileOf};
-ghost use Rattle.column_file.specs.Inner.{Column, Empty, Asked};
+ghost use Rattle.column_file.specs.Inner.{Column-of, Empty, Asked};
 
 // The count of section one: p, k, r, B, n and the flag.
 pub const NUMBERS: usize = 6;
@@ -43,7 +43,7 @@ pub fn carried(q: Params, n: usize) -> usize
 
 // Where column n of an image starts.
 pub fn column_at(q: Params, n: usize) -> usize
-    requires { ⌜ Column q n ⌝ }
+    requires { ⌜ Column-of q n ⌝ }
     ensures { λ x. ⌜ (x ≡ column-at q n) × (x ≤ 2000000) ⌝ }
 {
     if n < q.k {

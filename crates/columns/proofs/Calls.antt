@@ -1,24 +1,14 @@
 -- What import, export and the two lengths answer, by the way they come out.
 -- Assumes nothing.
-use Prim.Native.Nat.{ℕ, zero, suc, _+_, _-_, _*_, _%_, _^_, _<_, _≤_}
-use mathlib.Core.Bool.{Bool, true, false}
+use Prim.Native.Nat.{ℕ, _+_, _-_, _<_, _≤_}
 use mathlib.Core.List.{List}
 use mathlib.Core.Logic.{_≢_}
-use mathlib.Core.Path.{_≡_, refl, sym, ap, ap₂, subst, _∙_}
-use native.Mathlib.Nat.{mod-lt, mod-eq-of-lt}
+use mathlib.Core.Path.{_≡_, refl, sym, ap, subst, _∙_}
 use native.Mathlib.Omega.{arith}
-use lib.Bits.{bitXor}
-use lib.Dec.{ltb, eqb}
 use lib.ListN.{length}
-use lib.Pow.{pow-pos, pow-add, pow-lt}
-use borrow.Author.Tests.{lt-ltb, le-ltb, eq-eqb, ne-eqb, ltb-false}
-use Rattle.laws.proofs.Bit.{is-pack, bit-mod, bit-xor, bit-pack, bit-digit}
-use Rattle.laws.proofs.Xor.{zero-⊕, ⊕-self}
-use Rattle.laws.specs.Bit.{bit, pack}
-use Rattle.laws.specs.Choose.{choose}
+use borrow.Author.Tests.{lt-ltb, le-ltb, eq-eqb, ne-eqb}
 use Rattle.laws.specs.Left.{Leaves}
 use Rattle.laws.specs.Number.{u16}
-use Rattle.laws.specs.Xor.{_⊕_}
 use Rattle.refusal.specs.declared.Refusal.{Refusal}
 use Rattle.refusal.specs.declared.Refusal.the-variants.{Room as NoRoom, Column as NoColumn}
 use Rattle.refusal.specs.declared.Outcome.{Outcome}
@@ -32,16 +22,16 @@ use Rattle.stripe.specs.declared.Reading.{Reading}
 use Rattle.stripe.specs.declared.Reading.the-variants.{Stripe, Refused as Unread}
 use Rattle.column_file.specs.File.{number-at, file-length, fileOf}
 use Rattle.column_file.specs.Inner.{Asked}
-use Rattle.file_by_file.proofs.Steps.{Accepted, accepted}
-use Rattle.file_by_file.specs.Files.{stepOf, onward, walk, metFrom, first-params}
-use Rattle.file_by_file.specs.Inner.{met-refusal, Whole, Files, end, more}
+use Rattle.file_by_file.specs.Files.{metFrom, first-params}
+use Rattle.file_by_file.specs.Inner.{met-refusal, Whole, Files}
 use Rattle.file_by_file.specs.declared.Met.{Met}
 use Rattle.file_by_file.specs.declared.Met.the-variants.{Columns, Refused as Unmet}
-use Rattle.file_by_file.specs.declared.Step.{Step}
-use Rattle.file_by_file.specs.declared.Step.the-variants.{File, Refused as Bad}
 use Rattle.columns.specs.Export.{export-sound, export-read, exportOf, file-length-sound, file-length-read, fileLengthOf}
-use Rattle.columns.specs.Import.{blank, put-file, fill, filledFrom, absent, import-sound, import-met, importOf, files-length-met, filesLengthOf}
-use Rattle.columns.specs.Inner.{Taken}
+use Rattle.filling.proofs.Turns.{walk-whole}
+use Rattle.filling.specs.Filled.{blank, filledFrom}
+use Rattle.filling.specs.Inner.{Met-ready}
+use Rattle.columns.specs.Import.{absent, import-sound, import-met, importOf, files-length-met, filesLengthOf}
+use Rattle.columns.specs.Inner.{Accepted-files}
 use Rattle.columns.specs.declared.Imported.{Imported}
 use Rattle.columns.specs.declared.Imported.the-variants.{Absent, Refused}
 use Rattle.columns.specs.declared.Measured.{Measured}
@@ -54,31 +44,12 @@ module _ (s t : List ℕ) (q : Params) (met n : ℕ) (e : n ≡ image-length q) 
   unfolding import-sound
   no-room h = let z = ne-eqb (length t) (image-length q) (λ g. h (g ∙ sym e)) in record { answered = simp z; left = simp z }
 
-  pub import-done : length t ≡ n → (b u : List ℕ) (x : ℕ) → x ≡ absent q met → u ≡ filledFrom s q 0 b → b ≡ blank q → Leaves (import-sound s t q met) (Absent x) u
+  pub image-ready : length t ≡ n → Accepted-files s q met → Met-ready s t q met
+  image-ready h F = record { columns = F .columns; params = F .params; room = h ∙ e }
+
+  pub import-done : length t ≡ n → (u : List ℕ) (x : ℕ) → x ≡ absent q met → u ≡ filledFrom s q 0 (blank q) → Leaves (import-sound s t q met) (Absent x) u
   unfolding import-sound
-  import-done h b u x f g k =
-      let z = eq-eqb (length t) (image-length q) (h ∙ e) in
-      record { answered = simp z (ap Absent f); left = simp z (g ∙ ap (filledFrom s q 0) k) }
-
-walk-whole : (left : ℕ) (s : List ℕ) (at met m : ℕ) → walk left s at met ≡ Columns m → Whole s (first-params s) at (u16 s (at + number-at)) × Files s (first-params s) at
-unfolding walk onward
-walk-whole zero s at met m e = let z : _≡_ {A = ℕ} 0 1 = cc in absurd (omega arith)
-walk-whole (suc left) s at met m e = go (λ to w g. walk-whole left s to w m g) (stepOf s at met) refl e
-  where
-    next : (n to : ℕ) → Accepted s at n to → Files s (first-params s) to → Whole s (first-params s) at (u16 s (at + number-at)) × Files s (first-params s) at
-    next n to A F =
-        let w : Whole s (first-params s) at (u16 s (at + number-at)) = subst (Whole s (first-params s) at) (A .column) (A .whole) in
-        (w, more w (subst (Files s (first-params s)) (A .next ∙ ap (λ (x : ℕ). at + file-length (first-params s) x) (A .column)) F))
-
-    after : ((to w : ℕ) → walk left s to w ≡ Columns m → Whole s (first-params s) to (u16 s (to + number-at)) × Files s (first-params s) to)
-        → (n to : ℕ) (b : Bool) → ltb to (length s) ≡ b → choose b (walk left s to (met ⊕ 2 ^ n)) (Columns (met ⊕ 2 ^ n)) ≡ Columns m → Files s (first-params s) to
-    after ih n to true h f = ih to (met ⊕ 2 ^ n) f .1
-    after ih n to false h f = end (ltb-false to (length s) h)
-
-    go : ((to w : ℕ) → walk left s to w ≡ Columns m → Whole s (first-params s) to (u16 s (to + number-at)) × Files s (first-params s) to)
-        → (w : Step) → w ≡ stepOf s at met → onward s met (λ to m. walk left s to m) w ≡ Columns m → Whole s (first-params s) at (u16 s (at + number-at)) × Files s (first-params s) at
-    go ih (Bad x) z f = let y : _≡_ {A = ℕ} 0 1 = cc in absurd (omega arith)
-    go ih (File n to) z f = next n to (accepted s at met n to (File n to) refl z) (after ih n to (ltb to (length s)) refl f)
+  import-done h u x f g = let z = eq-eqb (length t) (image-length q) (h ∙ e) in record { answered = simp z (ap Absent f); left = simp z g }
 
 module _ (s : List ℕ) (v : Met) (a : v ≡ metFrom s 0 0) where
   pub import-refused : (t : List ℕ) (e x : Refusal) → v ≡ Unmet e → x ≡ met-refusal v → Leaves (importOf s t) (Refused x) t
@@ -95,8 +66,8 @@ module _ (s : List ℕ) (v : Met) (a : v ≡ metFrom s 0 0) where
     pub first-admitted : (q : Params) → q ≡ first-params s → Admitted q
     first-admitted q e = rw e (both .0 .admitted)
 
-    pub first-files : (q : Params) → q ≡ first-params s → Files s q 0
-    first-files q e = rw e (both .1)
+    pub all-accepted : (q : Params) → q ≡ first-params s → Accepted-files s q m
+    all-accepted q e = record { columns = sym a ∙ f; params = e }
 
     pub import-is : (t u : List ℕ) (q : Params) (x : Imported) → q ≡ first-params s → Leaves (import-sound s t q m) x u → Leaves (importOf s t) x u
     unfolding importOf import-met

@@ -1,3 +1,2 @@
-pub mod Putting
-pub mod Filling
+pub mod Pattern
 pub mod Calls

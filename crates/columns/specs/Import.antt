@@ -1,54 +1,25 @@
 -- Request 4: "Import takes any set of such files, one after another in a lent slice, and fills an image and the pattern of absent columns. Absent columns
 -- and their revisions are filled with zeros." "after all files, ROOM for an image not of L bytes".
 -- Assumes nothing.
-use Prim.Native.Nat.{ℕ, zero, suc, _+_, _-_, _*_}
+use Prim.Native.Nat.{ℕ, _+_}
 use mathlib.Core.List.{List}
-use lib.Dec.{ltb, eqb}
+use lib.Dec.{eqb}
 use lib.ListN.{length}
 use Rattle.laws.specs.Bit.{bit, pack}
 use Rattle.laws.specs.Choose.{choose}
 use Rattle.laws.specs.Left.{Left}
-use Rattle.laws.specs.Number.{u16}
-use Rattle.laws.specs.Part.{part, put, tab}
 use Rattle.refusal.specs.Number.{numberOf}
 use Rattle.refusal.specs.declared.Refusal.the-variants.{Room}
-use Rattle.stripe.specs.Layout.{column-length, revision-at, image-length}
-use Rattle.stripe.specs.Sections.{image-of}
+use Rattle.stripe.specs.Layout.{image-length}
 use Rattle.stripe.specs.declared.Params.{Params}
-use Rattle.column_file.specs.File.{column-at, carried, number-at, revisions-from, strips-from, file-length}
 use Rattle.file_by_file.specs.Files.{first-params, metFrom}
 use Rattle.file_by_file.specs.declared.Met.{Met}
 use Rattle.file_by_file.specs.declared.Met.the-variants.{Columns, Refused as Unmet}
+use Rattle.filling.specs.Filled.{blank, filledFrom}
 use Rattle.columns.specs.declared.Imported.{Imported}
 use Rattle.columns.specs.declared.Imported.the-variants.{Absent, Refused}
 use Rattle.columns.specs.declared.Measured.{Measured}
 use Rattle.columns.specs.declared.Measured.the-variants.{Bytes, Refused as Unmeasured}
-
--- ---- the image
-
--- "Absent columns and their revisions are filled with zeros": the image with every column absent
-abbrev pub zeros : ℕ → List ℕ
-zeros n = tab n (λ o. 0)
-
-unfoldable pub blank : Params → List ℕ
-blank q = image-of q (zeros (4 * q .k)) (zeros (q .k * column-length q)) (zeros (q .r * column-length q))
-
--- an image with the revisions and strips of column n in their place
-unfoldable pub put-column : Params → ℕ → List ℕ → List ℕ → List ℕ → List ℕ
-put-column q n revisions strips t = put (put t (revision-at n) revisions) (column-at q n) strips
-
--- the same with those of the file of column n at a place of s
-unfoldable pub put-file : List ℕ → ℕ → Params → ℕ → List ℕ → List ℕ
-put-file s at q n t = put-column q n (part s (at + revisions-from) (4 * carried q n)) (part s (at + strips-from q n) (column-length q)) t
-
--- every file from a place on put into t, of so many files at most
-unfoldable pub fill : ℕ → List ℕ → Params → ℕ → List ℕ → List ℕ
-fill zero s q at t = t
-fill (suc most) s q at t =
-    choose (ltb at (length s)) (fill most s q (at + file-length q (u16 s (at + number-at))) (put-file s at q (u16 s (at + number-at)) t)) t
-
-abbrev pub filledFrom : List ℕ → Params → ℕ → List ℕ → List ℕ
-filledFrom s q at t = fill (length s - at) s q at t
 
 -- "the pattern of absent columns": bit n is set where column n was not met
 unfoldable pub absent : Params → ℕ → ℕ

@@ -5,18 +5,13 @@ use refusal::Refusal;
 use stripe::Params;
 use stripe::Reading;
 ghost use mathlib.Core.Path.{_≡_};
-ghost use Prim.Native.Nat.{_+_, _*_, _≤_};
+ghost use Prim.Native.Nat.{_≤_};
 ghost use Rattle.laws.specs.Left.{Leaves};
-ghost use Rattle.laws.specs.Part.{part, put};
-ghost use Rattle.stripe.specs.Layout.{column-length, revision-at};
 ghost use Rattle.stripe.specs.Params.{Admitted};
 ghost use Rattle.stripe.specs.Reading.{Image};
-ghost use Rattle.stripe.specs.Sections.{Fits};
-ghost use Rattle.column_file.specs.File.{column-at, carried, revisions-from, strips-from};
-ghost use Rattle.file_by_file.specs.Inner.{Files};
 ghost use Rattle.columns.specs.Export.{export-sound, exportOf, file-length-sound, fileLengthOf, measured-value};
-ghost use Rattle.columns.specs.Import.{blank, put-file, filledFrom, absent, import-sound, importOf, filesLengthOf};
-ghost use Rattle.columns.specs.Inner.{Taken, Ready};
+ghost use Rattle.columns.specs.Import.{absent, import-sound, importOf, filesLengthOf};
+ghost use Rattle.columns.specs.Inner.{Accepted-files};
 
 // The bytes of the files of all columns of the largest image.
 pub const LARGEST_FILES: usize = (18 + Params::MOST_COLUMNS * Params::LARGEST_STRIP)
@@ -37,69 +32,6 @@ pub enum Measured {
 
 // ---- the image of files
 
-// Puts the revision of the file of a data column in its place.
-fn put_revisions(files: &[u8], at: usize, q: Params, n: usize, image: &mut [u8])
-    requires { ⌜ Taken (now files) (now image) q at n ⌝ }
-    ensures { λ _. ⌜ now (image .exit) ≡ put (now (image .entry)) (revision-at n) (part (now (files .entry)) (at + revisions-from) (4 * carried q n)) ⌝ }
-{
-    if n < q.k {
-        column_file::copy_part(
-            image,
-            q.revision_at(n),
-            files,
-            at + column_file::REVISIONS_FROM,
-            4,
-        );
-    }
-}
-
-// Puts the strips of the file of column n in their place.
-fn put_strips(files: &[u8], at: usize, q: Params, n: usize, image: &mut [u8])
-    requires { ⌜ Taken (now files) (now image) q at n ⌝ }
-    ensures { λ _. ⌜ now (image .exit) ≡ put (now (image .entry)) (column-at q n) (part (now (files .entry)) (at + strips-from q n) (column-length q)) ⌝ }
-{
-    let from = at + column_file::strips_from(q, n);
-    column_file::copy_part(
-        image,
-        column_file::column_at(q, n),
-        files,
-        from,
-        q.column_length(),
-    );
-}
-
-// Puts the column of a file in its place.
-fn put_file(files: &[u8], at: usize, q: Params, n: usize, image: &mut [u8])
-    requires { ⌜ Taken (now files) (now image) q at n ⌝ }
-    ensures { λ _. ⌜ now (image .exit) ≡ put-file (now (files .entry)) at q n (now (image .entry)) ⌝ }
-{
-    put_revisions(files, at, q, n, image);
-    put_strips(files, at, q, n, image);
-}
-
-// Puts the columns of all files in their place.
-fn fill_all(files: &[u8], q: Params, image: &mut [u8])
-    requires { ⌜ Ready (now files) (now image) q ⌝ }
-    ensures { λ _. ⌜ now (image .exit) ≡ filledFrom (now (files .entry)) q 0 (now (image .entry)) ⌝ }
-{
-    let mut at: usize = 0;
-    while at < files.len() {
-        let n = stripe::number(files, at + column_file::COLUMN_AT);
-        put_file(files, at, q, n, image);
-        at += column_file::length(q, n);
-    }
-}
-
-// The image with every column absent.
-fn put_blank(image: &mut [u8], q: Params)
-    requires { ⌜ Fits (now image) q ⌝ }
-    ensures { λ _. ⌜ now (image .exit) ≡ blank q ⌝ }
-{
-    let n = image.len();
-    engine::clear(image, 0, n);
-    stripe::put_counts(image, q);
-}
-
 // The pattern of the columns that were not met.
 fn absent_of(q: Params, met: u64) -> u64
     requires { ⌜ Admitted q ⌝ }
@@ -111,14 +43,13 @@ fn absent_of(q: Params, met: u64) -> u64
 
 // The image of files that were all accepted.
 fn import_sound(files: &[u8], q: Params, met: u64, image: &mut [u8]) -> Imported
-    requires { ⌜ Admitted q × Files (now files) q 0 ⌝ }
+    requires { ⌜ Admitted q × Accepted-files (now files) q met ⌝ }
     ensures { λ x. ⌜ Leaves (import-sound (now (files .entry)) (now (image .entry)) q met) x (now (image .exit)) ⌝ }
 {
     if image.len() != q.image_length() {
         return Imported::Refused(Refusal::Room);
     }
-    put_blank(image, q);
-    fill_all(files, q, image);
+    filling::fill(files, q, met, image);
     Imported::Absent(absent_of(q, met))
 }
 

@@ -23,7 +23,7 @@ use Rattle.stripe.specs.declared.Checked.the-variants.{Sound, Refused as Unsoun
 use Rattle.stripe.specs.declared.Params.{Params}
 use Rattle.column_file.specs.File.{flag, carried, number-at, flag-at, carried-at, strips-count-at, file-length}
 use Rattle.file_by_file.specs.Files.{alike, counted, body-step, column-step, checked-step, stepOf}
-use Rattle.file_by_file.specs.Inner.{Place, Whole}
+use Rattle.file_by_file.specs.Inner.{Start, Whole}
 use Rattle.file_by_file.specs.declared.Step.{Step}
 use Rattle.file_by_file.specs.declared.Step.the-variants.{File, Refused as Bad}
 
@@ -131,7 +131,7 @@ module _ (s : List ℕ) (at : ℕ) (q : Params) (n size : ℕ) (hs : size ≡ fi
   file-cut g = simp (lt-ltb (length s - at) (file-length q n) (rw hs at g))
 
   module _ (long : size ≤ length s - at) where
-    pub file-whole : Place s q at n → Whole s q at n
+    pub file-whole : Start s q at n → Whole s q at n
     file-whole H = record { admitted = H .admitted; below = H .below; here = omega (arith, H .here) }
 
     module _ (w : Bool) (hw : w ≡ counted s at q n) where

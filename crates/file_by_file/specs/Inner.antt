@@ -33,7 +33,7 @@ pub record Head (s : List ℕ) (q : Params) (at n : ℕ) : Type 0 where
   pub number : n ≤ 65535
 
 -- a place where the file of column n may be
-pub record Place (s : List ℕ) (q : Params) (at n : ℕ) : Type 0 where
+pub record Start (s : List ℕ) (q : Params) (at n : ℕ) : Type 0 where
   pub admitted : Admitted q
   pub below : n < q .k + q .r
   pub here : at ≤ length s

@@ -7,7 +7,7 @@ ghost use Prim.Native.Nat.{_+_, _^_, _<_, _≤_};
 ghost use lib.ListN.{length};
 ghost use Rattle.laws.specs.Xor.{_⊕_};
 ghost use Rattle.file_by_file.specs.Files.{alike, counted, body-step, column-step, stepOf, metFrom};
-ghost use Rattle.file_by_file.specs.Inner.{step-refusal, met-refusal, Head, Place, Whole};
+ghost use Rattle.file_by_file.specs.Inner.{step-refusal, met-refusal, Head, Start, Whole};
 
 // One file: its column and the place behind it; or the refusal.
 pub enum Step {
@@ -83,7 +83,7 @@ fn is_counted(files: &[u8], at: usize, q: Params, n: usize) -> bool
 
 // The rest of the file of column n at a place: its length, and the other counts.
 fn read_body(files: &[u8], at: usize, q: Params, n: usize) -> Step
-    requires { ⌜ Place (now files) q at n ⌝ }
+    requires { ⌜ Start (now files) q at n ⌝ }
     ensures { λ x. ⌜ x ≡ body-step (now (files .entry)) at q n ⌝ }
 {
     let size = column_file::length(q, n);

@@ -1,11 +1,11 @@
 -- Request 4: what import gives of exported files, and what rebuild makes of that.
 -- Assumes nothing.
-use Prim.Native.Nat.{ℕ, _+_, _-_, _*_, _/_, _%_, _^_, _<_, _≤_}
+use Prim.Native.Nat.{ℕ, _+_, _*_, _/_, _%_, _^_, _<_, _≤_}
 use mathlib.Core.Bool.{Bool, true, false}
-use mathlib.Core.List.{List, _∷_}
+use mathlib.Core.List.{List}
 use mathlib.Core.Path.{_≡_, refl, sym, ap, _∙_}
 use native.Mathlib.Omega.{arith}
-use lib.Dec.{T, eqb, ltb}
+use lib.Dec.{eqb, ltb}
 use lib.ListN.{length, getD}
 use borrow.Author.Tests.{lt-ltb, le-leb, eq-eqb}
 use Rattle.laws.proofs.Bit.{pack-lt, bit-pack}
@@ -13,22 +13,21 @@ use Rattle.laws.proofs.Choose.{true-T}
 use Rattle.laws.proofs.Part.{getD-part}
 use Rattle.laws.proofs.Rows.{row-in}
 use Rattle.laws.proofs.Tab.{getD-tab}
-use Rattle.laws.specs.Bit.{bit, weight}
+use Rattle.laws.specs.Bit.{weight}
 use Rattle.laws.specs.Choose.{choose}
 use Rattle.laws.specs.Left.{Left}
 use Rattle.refusal.specs.declared.Outcome.{Outcome}
 use Rattle.refusal.specs.declared.Outcome.the-variants.{Done, Refused as Unwritten}
 use Rattle.refusal.specs.declared.Refusal.the-variants.{Column, Room}
 use Rattle.stripe.proofs.Images.{image-of-image, length-image-of, of-opening, of-revisions, of-third, of-columns, of-fourth, of-parities, length-columns-in, length-parities-in}
-use Rattle.stripe.proofs.Places.{strip-in}
-use Rattle.stripe.specs.Layout.{rows, column-length, revision-at, data-count-at, data-from, data-byte, strip-at, parity-count-at, parity-from, parity-byte, parity-strip-at, image-length}
+use Rattle.stripe.specs.Layout.{rows, column-length, data-from, data-byte, strip-at, parity-count-at, parity-from, parity-byte, parity-strip-at, image-length}
 use Rattle.stripe.specs.Reading.{Image, readOf}
 use Rattle.stripe.specs.Sections.{columns-in, parities-in}
 use Rattle.stripe.specs.declared.Params.{Params}
 use Rattle.stripe.specs.declared.Reading.{Reading}
 use Rattle.stripe.specs.declared.Reading.the-variants.{Stripe, Refused as Unread}
 use Rattle.block.proofs.Touching.{due-agree}
-use Rattle.block.specs.Parity.{due, Right}
+use Rattle.block.specs.Parity.{Right}
 use Rattle.pattern.specs.Pattern.{pattern-fits, few-lost, is-lost}
 use Rattle.parity.specs.Answer.{outcome-number}
 use Rattle.rebuild.specs.Agrees.{AgreesOutside}
@@ -43,13 +42,12 @@ use Rattle.columns.specs.declared.Measured.the-variants.{Bytes, Refused as Unme
 use Rattle.columns.specs.Export.{export-sound, export-read, exportOf, file-length-sound, file-length-read, fileLengthOf, measured-value}
 use Rattle.columns.specs.Import.{import-sound, import-met, importOf, files-length-met, filesLengthOf, imported-number, imported-value}
 use Rattle.round_trip.proofs.Round.{export-done, import-exported, import-all, only-image, length-only-revisions, length-only-columns, length-only-parities}
-use Rattle.round_trip.proofs.Shape.{Kind, heads, revisions, third, columns, fourth, parities, kind}
-use Rattle.round_trip.proofs.Spots.{row-is}
+use Rattle.filling.proofs.Spots.{Kind, heads, revisions, third, columns, fourth, parities, kind, row-is}
 use Rattle.round_trip.specs.Only.{among, only-revisions, only-columns, only-parities, only, all-strips, others}
 use Rattle.promises.proofs.Accepted.{reads-image, image-reads}
 use Rattle.promises.proofs.Demand2.{comes, demand-2}
 use Rattle.promises.specs.Columns.{Fills, Column-files}
-use Rattle.promises.specs.Demand2.{Pattern, Comes-to, Demand-2}
+use Rattle.promises.specs.Demand2.{Pattern, Comes-to}
 
 -- ---- every strip of an image, and the revisions of some columns
 

@@ -15,7 +15,8 @@ use Rattle.stripe.specs.Sections.{image-of}
 use Rattle.column_file.specs.File.{column-at, flag, carried, file-of, fileOf}
 use Rattle.file_by_file.specs.Files.{alike, counted, body-step, column-step, checked-step, stepOf, onward, walk}
 use Rattle.columns.specs.Export.{export-sound, export-read, exportOf}
-use Rattle.columns.specs.Import.{blank, put-column, put-file, fill, absent, import-sound, import-met, importOf}
+use Rattle.filling.specs.Filled.{blank, put-column, put-file, fill}
+use Rattle.columns.specs.Import.{absent, import-sound, import-met, importOf}
 use Rattle.columns.specs.declared.Imported.the-variants.{Absent, Refused}
 use Rattle.round_trip.specs.Examples.{data-file, parity-file, both-image, refused-examples}
 

@@ -1,8 +1,8 @@
 -- The file of a column among files: its numbers, its revisions and strips; and that import accepts it.
 -- Assumes nothing.
-use Prim.Native.Nat.{ℕ, _+_, _-_, _*_, _<_, _≤_}
+use Prim.Native.Nat.{ℕ, _+_, _-_, _*_, _<_}
 use mathlib.Core.List.{List, _++_, append-assoc}
-use mathlib.Core.Path.{_≡_, refl, sym, ap, ap₂, _∙_}
+use mathlib.Core.Path.{_≡_, sym, ap, ap₂, _∙_}
 use native.Mathlib.Omega.{arith}
 use lib.ListN.{length, take, drop, length-append}
 use lib.Seq.{take-at, drop-at}
@@ -23,7 +23,7 @@ use Rattle.column_file.proofs.Columns.{carried-small, flag-small, length-revisi
 use Rattle.column_file.specs.File.{flag, carried, file-1, file-2, file-3, number-at, flag-at, carried-at, revisions-from, strips-count-at, strips-from, file-length, file-of, revisions-of, strips-of, fileOf}
 use Rattle.file_by_file.specs.Files.{first-params, alike, counted, body-step, column-step, checked-step, stepOf}
 use Rattle.file_by_file.specs.declared.Step.the-variants.{File}
-use Rattle.columns.specs.Import.{put-column, put-file}
+use Rattle.filling.specs.Filled.{put-column, put-file}
 
 part-in : (t pre v post : List ℕ) (at n : ℕ) → t ≡ pre ++ (v ++ post) → length pre ≡ at → length v ≡ n → part t at n ≡ v
 unfolding part

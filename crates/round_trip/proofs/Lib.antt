@@ -2,7 +2,6 @@ pub mod Marks
 pub mod Files
 pub mod Walked
 pub mod Placing
-pub mod Spots
 pub mod Shape
 pub mod Round
 pub mod Examples

@@ -12,7 +12,6 @@ use Rattle.laws.proofs.Bit.{pack-ext, pack-zero}
 use Rattle.laws.proofs.Part.{length-part, getD-part}
 use Rattle.laws.proofs.Tab.{length-tab, getD-tab, is-tab}
 use Rattle.laws.specs.Choose.{choose}
-use Rattle.laws.specs.Number.{u16}
 use Rattle.laws.specs.Part.{part, tab}
 use Rattle.refusal.specs.declared.Outcome.the-variants.{Done}
 use Rattle.stripe.proofs.Frame.{image-read}
@@ -23,18 +22,20 @@ use Rattle.stripe.specs.Reading.{Image}
 use Rattle.stripe.specs.declared.Params.{Params}
 use Rattle.stripe.specs.Sections.{image-of}
 use Rattle.column_file.specs.File.{file-length, fileOf}
-use Rattle.file_by_file.specs.Files.{first-params, walk}
+use Rattle.file_by_file.specs.Files.{walk}
 use Rattle.columns.specs.Export.{export-sound, export-read, exportOf}
-use Rattle.columns.specs.Import.{zeros, blank, fill, import-sound, import-met, importOf}
+use Rattle.filling.specs.Filled.{blank, fill}
+use Rattle.columns.specs.Import.{import-sound, import-met, importOf}
 use Rattle.round_trip.specs.Only.{among, Listed, more, All-listed, exported, only-revisions, only-columns, only-parities, only, others}
 use Rattle.columns.specs.declared.Imported.the-variants.{Absent}
 use Rattle.file_by_file.specs.declared.Met.the-variants.{Columns}
 use Rattle.round_trip.proofs.Files.{First, first-file, first-is}
 use Rattle.column_file.proofs.Columns.{length-file}
 use Rattle.round_trip.proofs.Marks.{marked, absent-others}
-use Rattle.round_trip.proofs.Placing.{Of, length-placed, placed-inner, placed-outer}
-use Rattle.round_trip.proofs.Shape.{Kind, heads, revisions, third, columns, fourth, parities, kind, image-is}
-use Rattle.round_trip.proofs.Spots.{head-of, third-of, fourth-of, revision-of, revision-only, data-of, data-only, parity-of, parity-only, row-below}
+use Rattle.round_trip.proofs.Placing.{length-placed, placed-inner, placed-outer}
+use Rattle.round_trip.proofs.Shape.{image-is}
+use Rattle.filling.proofs.Bytes.{Of}
+use Rattle.filling.proofs.Spots.{Kind, heads, revisions, third, columns, fourth, parities, kind, head-of, third-of, fourth-of, revision-of, revision-only, data-of, data-only, parity-of, parity-only, row-below}
 use Rattle.round_trip.proofs.Walked.{placed, walked, filled}
 use Rattle.laws.proofs.Bit.{bit-zero}
 
@@ -76,23 +77,23 @@ module _ (s : List ℕ) (q : Params) (ns : List ℕ) where
   unfolding blank
   length-blank = length-image-of q _ _ _ (length-tab (4 * q .k) (λ o. 0)) (length-tab (q .k * C) (λ o. 0)) (length-tab (q .r * C) (λ o. 0))
 
-  module _ (l : length s ≡ image-length q) (L : Listed q ns) where
+  module _ (im : Image s q) (L : Listed q ns) where
     t : List ℕ
     t = placed s q ns (blank q)
 
     lb : length (blank q) ≡ length s
-    lb = length-blank ∙ sym l
+    lb = length-blank ∙ sym (im .len)
 
     -- a byte that column n alone has
     chosen : (n o : ℕ) → Of q n o → ((m : ℕ) → Of q m o → m ≡ n) → getD (blank q) o 0 ≡ 0 → (b : Bool) → among n ns ≡ b → getD t o 0 ≡ choose b (getD s o 0) 0
     unfolding t
-    chosen n o f u z true e = placed-inner s q l ns (blank q) o n L lb e f
+    chosen n o f u z true e = placed-inner s q im ns (blank q) o n L lb e f
     chosen n o f u z false e =
-        placed-outer s q l ns (blank q) o L lb (λ m g h. let y : true ≡ false = sym g ∙ ap (λ (x : ℕ). among x ns) (u m h) ∙ e in let w : _≡_ {A = ℕ} 0 1 = cc in absurd (omega arith)) ∙ z
+        placed-outer s q im ns (blank q) o L lb (λ m g h. let y : true ≡ false = sym g ∙ ap (λ (x : ℕ). among x ns) (u m h) ∙ e in let w : _≡_ {A = ℕ} 0 1 = cc in absurd (omega arith)) ∙ z
 
     kept : (o : ℕ) → ((m : ℕ) → Of q m o → ⊥) → getD t o 0 ≡ getD (blank q) o 0
     unfolding t
-    kept o f = placed-outer s q l ns (blank q) o L lb (λ m g h. f m h)
+    kept o f = placed-outer s q im ns (blank q) o L lb (λ m g h. f m h)
 
     lr : length (only-revisions s q ns) ≡ 4 * q .k
     lr = length-only-revisions
@@ -136,7 +137,7 @@ module _ (s : List ℕ) (q : Params) (ns : List ℕ) where
     pub placed-only : placed s q ns (blank q) ≡ only s q ns
     unfolding t
     placed-only =
-        let lt : length (placed s q ns (blank q)) ≡ image-length q = length-placed s q l ns (blank q) L lb ∙ l in
+        let lt : length (placed s q ns (blank q)) ≡ image-length q = length-placed s q im ns (blank q) L lb ∙ im .len in
         ext-getD 0 t (only s q ns) (lt ∙ sym length-only) (λ o h. same o (kind q o (omega arith)))
 
 -- ---- the theorem
@@ -163,7 +164,7 @@ module _ (s : List ℕ) (q : Params) (i : Image s q) where
       let b : length (n ∷ ns) ≤ length files = many s q i (n ∷ ns) K in
       let F : First files q = first-file s q i n h files [] (exported s q ns) 0 refl refl refl in
       let w : walk (length files - 0) files 0 0 ≡ Columns (marked 0 (n ∷ ns)) = walked s q i files n ns [] 0 0 (length files - 0) K F refl refl (λ m g. bit-zero m) (omega arith) in
-      let f : fill (length files - 0) files q 0 (blank q) ≡ only s q (n ∷ ns) = filled s q i files (n ∷ ns) [] (blank q) 0 (length files - 0) K refl refl (omega arith) ∙ placed-only s q (n ∷ ns) (i .len) K in
+      let f : fill (length files - 0) files q 0 (blank q) ≡ only s q (n ∷ ns) = filled s q i files (n ∷ ns) [] (blank q) 0 (length files - 0) K refl refl (omega arith) ∙ placed-only s q (n ∷ ns) i K in
       ap (import-met files t) w
       ∙ ap (λ (x : Params). import-sound files t x (marked 0 (n ∷ ns))) (first-is files q F)
       ∙ simp (eq-eqb (length t) (image-length q) l)

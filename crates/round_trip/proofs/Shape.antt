@@ -1,9 +1,8 @@
 -- An image by its sections: which of its bytes lie where, and that an accepted image of bytes is written out from its own sections.
 -- Assumes nothing.
-use Prim.Native.Nat.{ℕ, zero, suc, _+_, _-_, _*_, _/_, _%_, _<_, _≤_}
+use Prim.Native.Nat.{ℕ, zero, suc, _+_, _*_, _/_, _%_, _<_, _≤_}
 use mathlib.Core.List.{List, [], _++_, append-assoc, append-nil}
 use mathlib.Core.Path.{_≡_, refl, sym, ap, _∙_}
-use native.Mathlib.Decide.{decLt}
 use native.Mathlib.Omega.{arith}
 use lib.ListN.{length, getD, drop, drop-of-length-le}
 use lib.Seq.{ext-getD}
@@ -12,31 +11,10 @@ use Rattle.laws.proofs.Tab.{getD-tab}
 use Rattle.laws.specs.Number.{byte, u16}
 use Rattle.laws.specs.Part.{part}
 use Rattle.stripe.proofs.Images.{cut-at, length-sixteen}
-use Rattle.stripe.specs.Layout.{column-length, revision-at, data-count-at, data-from, parity-count-at, parity-from, image-length}
+use Rattle.stripe.specs.Layout.{column-length, data-count-at, data-from, parity-count-at, parity-from, image-length}
 use Rattle.stripe.specs.Reading.{Image}
 use Rattle.stripe.specs.Sections.{sixteen, image-of, revisions-in, columns-in, parities-in}
 use Rattle.stripe.specs.declared.Params.{Params}
-
--- ---- where a byte of an image lies
-
-pub data Kind (q : Params) (o : ℕ) : Type 0 where
-  heads : o < revision-at 0 → Kind q o
-  revisions : (x : ℕ) → x < 4 * q .k → o ≡ revision-at 0 + x → Kind q o
-  third : (x : ℕ) → x < 2 → o ≡ data-count-at q + x → Kind q o
-  columns : (x : ℕ) → x < q .k * column-length q → o ≡ data-from q + x → Kind q o
-  fourth : (x : ℕ) → x < 2 → o ≡ parity-count-at q + x → Kind q o
-  parities : (x : ℕ) → x < q .r * column-length q → o ≡ parity-from q + x → Kind q o
-
-pub kind : (q : Params) (o : ℕ) → o < image-length q → Kind q o
-kind q o h = go (decLt o (revision-at 0)) (decLt o (data-count-at q)) (decLt o (data-from q)) (decLt o (parity-count-at q)) (decLt o (parity-from q))
-  where
-    go : Dec (o < revision-at 0) → Dec (o < data-count-at q) → Dec (o < data-from q) → Dec (o < parity-count-at q) → Dec (o < parity-from q) → Kind q o
-    go (yes a) b c d e = heads a
-    go (no a) (yes b) c d e = revisions (o - revision-at 0) (omega arith) (omega arith)
-    go (no a) (no b) (yes c) d e = third (o - data-count-at q) (omega arith) (omega arith)
-    go (no a) (no b) (no c) (yes d) e = columns (o - data-from q) (omega arith) (omega arith)
-    go (no a) (no b) (no c) (no d) (yes e) = fourth (o - parity-count-at q) (omega arith) (omega arith)
-    go (no a) (no b) (no c) (no d) (no e) = parities (o - parity-from q) (omega arith) (omega arith)
 
 -- ---- an image of bytes, cut where its sections begin
 

@@ -12,7 +12,7 @@ use Rattle.stripe.specs.Reading.{Image}
 use Rattle.stripe.specs.declared.Params.{Params}
 use Rattle.column_file.specs.File.{number-at, file-length, revisions-of, strips-of, fileOf}
 use Rattle.file_by_file.specs.Files.{stepOf, onward, walk}
-use Rattle.columns.specs.Import.{put-column, put-file, fill}
+use Rattle.filling.specs.Filled.{put-column, put-file, fill}
 use Rattle.round_trip.specs.Only.{Listed, more, exported}
 use Rattle.file_by_file.specs.declared.Met.{Met}
 use Rattle.file_by_file.specs.declared.Met.the-variants.{Columns}

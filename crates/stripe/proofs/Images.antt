@@ -10,7 +10,7 @@ use Rattle.laws.proofs.Part.{length-part, length-put, is-put, getD-put-before, 
 use Rattle.laws.proofs.Place.{Place, place, before, inside, after}
 use Rattle.laws.proofs.Tab.{length-tab, getD-tab}
 use Rattle.laws.specs.Number.{byte, u16, put16}
-use Rattle.laws.specs.Part.{part, put, tab}
+use Rattle.laws.specs.Part.{part, put}
 use Rattle.laws.specs.Patch.{patch}
 use Rattle.stripe.specs.Layout.{column-length, revision-at, data-at, data-count-at, data-from, parity-count-at, parity-from, image-length}
 use Rattle.stripe.specs.Params.{Admitted}

@@ -1,11 +1,12 @@
 -- What the tests of the parameters show of their definitions.
 -- Assumes nothing.
-use Prim.Native.Nat.{ℕ, _+_, _%_, _<_, _≤_}
+use Prim.Native.Nat.{ℕ, zero, suc, _+_, _-_, _*_, _/_, _%_, _^_, _<_, _≤_}
 use mathlib.Core.Bool.{Bool, true, false, not, _&&_}
 use mathlib.Core.List.{List}
 use mathlib.Core.Logic.{_≢_}
 use mathlib.Core.Path.{_≡_, refl, sym, ap, _∙_}
-use native.Mathlib.Decide.{ℕ-discrete}
+use native.Mathlib.Decide.{ℕ-discrete, decLt}
+use native.Mathlib.Nat.{mul-le-mul, mul-comm, mul-mod-left, div-add-mod'}
 use native.Mathlib.Omega.{arith}
 use lib.Dec.{leb, T, leb→le, le→leb}
 use borrow.Author.Tests.{le-leb, not-true, not-false}
@@ -47,13 +48,42 @@ pub above-largest : (p : ℕ) → 61 < p → false ≡ admitted-prime p
 unfolding admitted-prime
 above-largest p h = untrue _ (λ t. omega (arith, leb→le p 61 (and-right (odd-prime p) (leb p 61) t)))
 
-pub divided : (p d : ℕ) → 2 ≤ d → d < p → p % d ≡ 0 → false ≡ admitted-prime p
-divided p d h l e = untrue _ (λ t. admitted-odd p t .no-divisor d h l e)
+-- d is below p where its square is not above p
+root-below : (p d : ℕ) → 2 ≤ d → d * d ≤ p → d < p
+root-below p d h l = omega (arith, mul-le-mul {n₁ = 2} {m₁ = d} {n₂ = d} {m₂ = d} h (omega arith))
 
-pub undivided : (p d : ℕ) → 3 ≤ p → p ≤ 61 → p ≤ d → Undivided p d → true ≡ admitted-prime p
+pub root-fits : (p d : ℕ) → d ≤ p → p ≤ 61 → d * d < 2 ^ 64
+root-fits p d h l = omega (arith, mul-le-mul {n₁ = d} {m₁ = d} {n₂ = 61} {m₂ = 61} (omega arith) (omega arith))
+
+pub root-next : (p d : ℕ) → 2 ≤ d → d * d ≤ p → d + 1 ≤ p
+root-next p d h l = omega (arith, root-below p d h l)
+
+pub root-nearer : (p d : ℕ) → 2 ≤ d → d * d ≤ p → p - (d + 1) < p - d
+root-nearer p d h l = omega (arith, root-below p d h l)
+
+pub divided : (p d : ℕ) → 2 ≤ d → d * d ≤ p → p % d ≡ 0 → false ≡ admitted-prime p
+divided p d h l e = untrue _ (λ t. admitted-odd p t .no-divisor d h (root-below p d h l) e)
+
+-- a divisor from d on has a factor beside it that is below d, where the square of d is above p
+undivided-above : (p d e : ℕ) → p < d * d → Undivided p d → d ≤ e → e < p → p % e ≢ 0
+undivided-above p d e g u h k z =
+    let f : ℕ = p / e in
+    let y : f * e ≡ p = omega (arith, div-add-mod' p e) in
+    u f (two f y) (small f y) (ap (λ (x : ℕ). x % f) (sym y ∙ mul-comm f e) ∙ mul-mod-left e f)
+  where
+    two : (f : ℕ) → f * e ≡ p → 2 ≤ f
+    two zero y = absurd (omega arith)
+    two (suc zero) y = absurd (omega arith)
+    two (suc (suc f)) y = omega arith
+
+    small : (f : ℕ) → f * e ≡ p → f < d
+    small f y = elim (decLt f d) [ yes l ↦ l | no l ↦ absurd (omega (arith, mul-le-mul {n₁ = d} {m₁ = d} {n₂ = f} {m₂ = e} (omega arith) h)) ]
+
+pub undivided : (p d : ℕ) → 3 ≤ p → p ≤ 61 → p < d * d → Undivided p d → true ≡ admitted-prime p
 unfolding admitted-prime
 undivided p d h l g u =
-    sym (T-true _ (both-T (odd-prime p) (leb p 61) (is-prime p (record { three = h; no-divisor = λ e f k. u e f (omega arith) })) (le→leb p 61 l)))
+    sym (T-true _ (both-T (odd-prime p) (leb p 61)
+    (is-prime p (record { three = h; no-divisor = λ e f k. elim (decLt e d) [ yes b ↦ u e f b | no b ↦ undivided-above p d e g u (omega arith) k ] })) (le→leb p 61 l)))
 
 -- ---- the ways out of `admits_shape` and `admits_strip`
 

@@ -66,7 +66,7 @@ impl Params {
         [0u8; Params::LARGEST_STRIP]
     }
 
-    // Whether p is an odd prime up to the largest.
+    // Whether p is an odd prime up to the largest. Of two factors one is no larger than the root.
     pub fn admits(p: usize) -> bool
         ensures { λ r. ⌜ r ≡ admitted-prime p ⌝ }
     {
@@ -77,7 +77,7 @@ impl Params {
             return false;
         }
         let mut d = 2;
-        while d < p {
+        while d * d <= p {
             if p % d == 0 {
                 return false;
             }

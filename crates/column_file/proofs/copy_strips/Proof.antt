@@ -1,6 +1,6 @@
 -- `column_file::copy_strips` meets its contract.
 -- Assumes nothing.
-use Rattle.column_file.proofs.Writing.{asked-strips, strips-copied, asked-column}
+use Rattle.column_file.proofs.Writing.{asked-strips, strips-copied}
 use borrow.Author.Needs.{needs}
 use Rattle.column_file.proofs.copy_strips.Statement.{statement}
 use Rattle.column_file.proofs.copy_strips.Tie as tie

@@ -1,6 +1,6 @@
 -- `columns::import` meets its contract.
 -- Assumes nothing.
-use Rattle.columns.proofs.Calls.{import-refused, first-there, first-admitted, first-files, import-is}
+use Rattle.columns.proofs.Calls.{import-refused, first-there, first-admitted, all-accepted, import-is}
 use borrow.Author.Needs.{needs}
 use Rattle.columns.proofs.import.Statement.{statement}
 use Rattle.columns.proofs.import.Tie as tie
@@ -24,7 +24,7 @@ numbers-requires : tie.Need-numbers-requires
 numbers-requires c κs = search first-there
 
 import-sound-requires : tie.Need-import-sound-requires
-import-sound-requires c κs = (search first-admitted, search first-files)
+import-sound-requires c κs = (search first-admitted, search all-accepted)
 
 same-length : tie.Need-same-length
 same-length c = search needs

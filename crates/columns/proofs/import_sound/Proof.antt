@@ -1,6 +1,6 @@
 -- `columns::import_sound` meets its contract.
 -- Assumes nothing.
-use Rattle.columns.proofs.Calls.{no-room, import-done}
+use Rattle.columns.proofs.Calls.{no-room, image-ready, import-done}
 use borrow.Author.Needs.{needs}
 use Rattle.columns.proofs.import_sound.Statement.{statement}
 use Rattle.columns.proofs.import_sound.Tie as tie
@@ -11,11 +11,8 @@ image-length-requires c κs = search needs
 returns : tie.Need-returns
 returns c = search no-room
 
-put-blank-requires : tie.Need-put-blank-requires
-put-blank-requires c κs = search needs
-
-fill-all-requires : tie.Need-fill-all-requires
-fill-all-requires c κs = search needs
+fill-requires : tie.Need-fill-requires
+fill-requires c κs = search image-ready
 
 absent-of-requires : tie.Need-absent-of-requires
 absent-of-requires c κs = search needs
@@ -29,11 +26,4 @@ returns-2 c = search import-done
 pub import-sound-spec : {M : Type 1} → statement M
 import-sound-spec =
     tie.close
-    (tie.spec
-    image-length-requires
-    returns
-    put-blank-requires
-    fill-all-requires
-    absent-of-requires
-    same-length
-    returns-2)
+    (tie.spec image-length-requires returns fill-requires absent-of-requires same-length returns-2)

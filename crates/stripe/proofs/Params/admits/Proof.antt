@@ -1,7 +1,7 @@
 -- `stripe::Params::admits` meets its contract: the loop keeps that no number from 2 to below d divides p. Assumes nothing.
 use Prim.Native.Nat.{_≤_, _-_}
 use native.Mathlib.Omega.{arith}
-use Rattle.stripe.proofs.Laws.{Undivided, undivided-none, undivided-more, below-three, above-largest, divided, undivided}
+use Rattle.stripe.proofs.Laws.{Undivided, undivided-none, undivided-more, below-three, above-largest, root-fits, root-next, root-nearer, divided, undivided}
 use Rattle.stripe.proofs.Params.admits.Statement.{statement}
 use Rattle.stripe.proofs.Params.admits.Tie as tie
 
@@ -20,6 +20,9 @@ returns-2 c = search above-largest
 loop-holds : tie.Need-loop-holds Inv-loop μ-loop
 loop-holds c = (omega arith, omega arith, undivided-none _)
 
+mul-loop : tie.Need-mul-loop Inv-loop μ-loop
+mul-loop c = search root-fits
+
 rem-if3 : tie.Need-rem-if3 Inv-loop μ-loop
 rem-if3 c = omega arith
 
@@ -30,10 +33,10 @@ add-d : tie.Need-add-d Inv-loop μ-loop
 add-d c = omega arith
 
 loop-less : tie.Need-loop-less Inv-loop μ-loop
-loop-less c = omega arith
+loop-less c = search root-nearer
 
 loop-again : tie.Need-loop-again Inv-loop μ-loop
-loop-again c = (omega arith, omega arith, search undivided-more)
+loop-again c = (omega arith, search root-next, search undivided-more)
 
 returns-4 : tie.Need-returns-4 Inv-loop μ-loop
 returns-4 c = search undivided
@@ -47,6 +50,7 @@ admits-spec =
     returns
     returns-2
     loop-holds
+    mul-loop
     rem-if3
     returns-3
     add-d

@@ -1,9 +1,9 @@
--- `columns::put_strips` meets its contract.
+-- `filling::put_strips` meets its contract.
 -- Assumes nothing.
-use Rattle.columns.proofs.Putting.{taken-strips, strips-put}
+use Rattle.filling.proofs.Putting.{taken-strips, strips-put}
 use borrow.Author.Needs.{needs}
-use Rattle.columns.proofs.put_strips.Statement.{statement}
-use Rattle.columns.proofs.put_strips.Tie as tie
+use Rattle.filling.proofs.put_strips.Statement.{statement}
+use Rattle.filling.proofs.put_strips.Tie as tie
 
 strips-from-requires : tie.Need-strips-from-requires
 strips-from-requires c κs = search needs

@@ -1,4 +1,4 @@
--- `columns::fill_all` meets its contract.
+-- `filling::put_files` meets its contract.
 -- Assumes nothing.
 use Rattle.stripe.specs.Layout.{image-length}
 use Prim.Native.Nat.{_+_, _-_, _≤_}
@@ -6,12 +6,12 @@ use mathlib.Core.Path.{_≡_, refl}
 use native.Mathlib.Omega.{arith}
 use lib.ListN.{length}
 use borrow.Author.Needs.{needs}
-use Rattle.columns.proofs.Filling.{number-there, taken-here, place-after, place-nearer, files-after, filled-after, filled-end}
-use Rattle.columns.specs.Import.{filledFrom}
+use Rattle.filling.proofs.Turns.{number-there, taken-here, place-after, place-nearer, files-after, filled-after, filled-end}
+use Rattle.filling.specs.Filled.{filledFrom}
 use Rattle.column_file.specs.File.{number-at}
 use Rattle.file_by_file.specs.Inner.{Files}
-use Rattle.columns.proofs.fill_all.Statement.{statement}
-use Rattle.columns.proofs.fill_all.Tie as tie
+use Rattle.filling.proofs.put_files.Statement.{statement}
+use Rattle.filling.proofs.put_files.Tie as tie
 
 abbrev Inv-loop : tie.InvT-loop
 Inv-loop files q image₀ at₀ image at = (length image ≡ image-length q) × Files files q at × (filledFrom files q at image ≡ filledFrom files q 0 image₀)
@@ -49,8 +49,8 @@ same-length c = omega arith
 returns : tie.Need-returns Inv-loop μ-loop
 returns c = search filled-end
 
-pub fill-all-spec : {M : Type 1} → statement M
-fill-all-spec =
+pub put-files-spec : {M : Type 1} → statement M
+put-files-spec =
     tie.close
     (tie.spec
     Inv-loop

@@ -8,11 +8,11 @@ use native.Mathlib.Nat.{div-add-mod', mod-lt, mul-le-mul-right}
 use native.Mathlib.Omega.{arith}
 use lib.Arith.{digits-div}
 use Rattle.stripe.proofs.Places.{data-column-in}
-use Rattle.stripe.specs.Layout.{column-length, revision-at, data-count-at, data-from, data-at, parity-count-at, parity-from, parity-at}
+use Rattle.stripe.specs.Layout.{column-length, revision-at, data-count-at, data-from, data-at, parity-count-at, parity-from, parity-at, image-length}
 use Rattle.stripe.specs.declared.Params.{Params}
 use Rattle.column_file.specs.File.{column-at}
 use Rattle.column_file.proofs.Columns.{column-data, column-parity, carried-data, carried-parity}
-use Rattle.round_trip.proofs.Placing.{Of}
+use Rattle.filling.proofs.Bytes.{Of}
 
 pub data Spot (q : Params) (m o : ℕ) : Type 0 where
   revised : m < q .k → revision-at m ≤ o → o < revision-at m + 4 → Spot q m o
@@ -129,3 +129,24 @@ module _ (q : Params) where
       go (revised l a b) = absurd (omega arith)
       go (datum l a b) = absurd (omega (arith, data-column-in q m l))
       go (parity l a b) = omega (arith, row-is (m - q .k) x (column-length q) (omega arith) (omega arith))
+
+-- ---- where a byte of an image lies: in a count, or in a column
+
+pub data Kind (q : Params) (o : ℕ) : Type 0 where
+  heads : o < revision-at 0 → Kind q o
+  revisions : (x : ℕ) → x < 4 * q .k → o ≡ revision-at 0 + x → Kind q o
+  third : (x : ℕ) → x < 2 → o ≡ data-count-at q + x → Kind q o
+  columns : (x : ℕ) → x < q .k * column-length q → o ≡ data-from q + x → Kind q o
+  fourth : (x : ℕ) → x < 2 → o ≡ parity-count-at q + x → Kind q o
+  parities : (x : ℕ) → x < q .r * column-length q → o ≡ parity-from q + x → Kind q o
+
+pub kind : (q : Params) (o : ℕ) → o < image-length q → Kind q o
+kind q o h = go (decLt o (revision-at 0)) (decLt o (data-count-at q)) (decLt o (data-from q)) (decLt o (parity-count-at q)) (decLt o (parity-from q))
+  where
+    go : Dec (o < revision-at 0) → Dec (o < data-count-at q) → Dec (o < data-from q) → Dec (o < parity-count-at q) → Dec (o < parity-from q) → Kind q o
+    go (yes a) b c d e = heads a
+    go (no a) (yes b) c d e = revisions (o - revision-at 0) (omega arith) (omega arith)
+    go (no a) (no b) (yes c) d e = third (o - data-count-at q) (omega arith) (omega arith)
+    go (no a) (no b) (no c) (yes d) e = columns (o - data-from q) (omega arith) (omega arith)
+    go (no a) (no b) (no c) (no d) (yes e) = fourth (o - parity-count-at q) (omega arith) (omega arith)
+    go (no a) (no b) (no c) (no d) (no e) = parities (o - parity-from q) (omega arith) (omega arith)

@@ -1,9 +1,9 @@
--- `columns::put_revisions` meets its contract.
+-- `filling::put_revisions` meets its contract.
 -- Assumes nothing.
-use Rattle.columns.proofs.Putting.{taken-revisions, revisions-put, no-revisions-put}
+use Rattle.filling.proofs.Putting.{taken-revisions, revisions-put, no-revisions-put}
 use borrow.Author.Needs.{needs}
-use Rattle.columns.proofs.put_revisions.Statement.{statement}
-use Rattle.columns.proofs.put_revisions.Tie as tie
+use Rattle.filling.proofs.put_revisions.Statement.{statement}
+use Rattle.filling.proofs.put_revisions.Tie as tie
 
 revision-at-requires : tie.Need-revision-at-requires
 revision-at-requires c κs = search needs

@@ -1,9 +1,9 @@
--- `columns::put_file` meets its contract.
+-- `filling::put_file` meets its contract.
 -- Assumes nothing.
-use Rattle.columns.proofs.Putting.{file-put}
+use Rattle.filling.proofs.Putting.{file-put}
 use borrow.Author.Needs.{needs}
-use Rattle.columns.proofs.put_file.Statement.{statement}
-use Rattle.columns.proofs.put_file.Tie as tie
+use Rattle.filling.proofs.put_file.Statement.{statement}
+use Rattle.filling.proofs.put_file.Tie as tie
 
 put-revisions-requires : tie.Need-put-revisions-requires
 put-revisions-requires c κs = search needs
