@@ -1,5 +1,5 @@
 /*
- * Stripes of the Cauchy MDS array code C(k, r, p): make, check, write, rebuild.
+ * Stripes of the Cauchy MDS array code C(k, r, p): make, check, write, rebuild; and files of single columns: export, import.
  *
  * Link with libairsaffron.a (x86-64), which `rt staticlib airsaffron` writes to target/staticlib. It keeps no state, allocates
  * nothing and calls nothing but memcpy and memset.
@@ -11,6 +11,12 @@
  *   3. count k, then the data columns, each row by row;
  *   4. count r, then the parity columns, each row by row;
  * where each count has 16 bits. Its length is L = 16 + 4k + (k+r)(p-1)B.
+ *
+ * The file of one column, number n, is likewise:
+ *   1. count 6, then p, k, r, B, n, and the flag 1 for parity or 0 for data (each of 16 bits);
+ *   2. for data count 1, then the column's revision (32 bits); for parity count 0;
+ *   3. count p-1, then the column's strips, row by row.
+ * Its length is 22 + (p-1)B for data and 18 + (p-1)B for parity.
  *
  * ANSWERS. Each call answers three numbers by value. `refusal` is 0 where the call is accepted, else one of the numbers below; then
  * no lent byte has changed, and `first` and `second` are 0, but for STALE and AHEAD, whose `first` says how far the base is behind or
@@ -43,23 +49,25 @@ typedef struct airsaffron_answer {
 /* Numbers of refusal. */
 enum {
     AIRSAFFRON_ACCEPTED = 0,
-    AIRSAFFRON_CUT = 1,       /* image too short */
+    AIRSAFFRON_CUT = 1,       /* image or column file too short, or no column file at all */
     AIRSAFFRON_TAIL = 2,      /* image too long */
     AIRSAFFRON_COUNT = 3,     /* a section's count is not the due one */
     AIRSAFFRON_PRIME = 4,     /* p not an odd prime from 3 to 61 */
     AIRSAFFRON_SHAPE = 5,     /* k = 0, r = 0 or k+r above p */
     AIRSAFFRON_STRIP = 6,     /* B = 0 or above 512 */
     AIRSAFFRON_WIDTH = 7,     /* data or new strip of wrong length */
-    AIRSAFFRON_COLUMN = 8,    /* write: column not below k; pattern or shown column not below k+r */
+    AIRSAFFRON_COLUMN = 8,    /* write: column not below k; pattern, shown column, exported column or n of a column file not below k+r */
     AIRSAFFRON_ROW = 9,       /* row not below p-1 */
     AIRSAFFRON_STALE = 10,    /* base older; first: how many revisions behind, 1 to 2^31 - 1 */
     AIRSAFFRON_AHEAD = 11,    /* base newer; first: how many revisions ahead, 1 to 2^31 - 1 */
     AIRSAFFRON_MANY = 12,     /* more than r columns lost */
-    AIRSAFFRON_ROOM = 13,     /* make: buffer not L bytes; scratch below B */
+    AIRSAFFRON_ROOM = 13,     /* make, import: image not L bytes; scratch below B; export: not the length of the column's file */
     AIRSAFFRON_LONG = 14,     /* report program only, no call here: input above 65,536 bytes */
     AIRSAFFRON_EXPONENT = 15, /* a or b not below p, or a = b */
     AIRSAFFRON_ELEMENT = 16,  /* a word with odd weight or a bit at p or above */
-    AIRSAFFRON_UNCLEAR = 17   /* base exactly 2^31 from the revision: which is newer is not defined */
+    AIRSAFFRON_UNCLEAR = 17,  /* base exactly 2^31 from the revision: which is newer is not defined */
+    AIRSAFFRON_FOREIGN = 18,  /* column files: parameters unlike the first file's, or a flag wrong for n */
+    AIRSAFFRON_TWICE = 19     /* column files: a column met again */
 };
 
 /* Limits. */
@@ -153,6 +161,35 @@ airsaffron_answer airsaffron_restore(const uint8_t *image, size_t image_length, 
  */
 airsaffron_answer airsaffron_show(const uint8_t *image, size_t image_length, uint64_t lost, uint64_t column, uint64_t row, const uint8_t *scratch,
                                   size_t scratch_length);
+
+/*
+ * Fills `file`, of exactly the length of that file, with the file of column `column`, data or parity. What `file` held before does not matter.
+ * Parity goes as it stands, right or wrong. Refusals: reading, COLUMN, ROOM.
+ */
+airsaffron_answer airsaffron_export(const uint8_t *image, size_t image_length, uint64_t column, uint8_t *file, size_t file_length);
+
+/*
+ * Fills `image`, of exactly L bytes, from the column files in `files`, which stand one after another, in any order, up to its end. Columns without a
+ * file and their revisions are filled with zeros. What `image` held before does not matter, and parity goes as the files have it.
+ * first: the pattern of the absent columns, bit n for column n, as `airsaffron_rebuild` takes it. Rebuild leaves revisions: that of an absent data
+ * column stays 0.
+ * Refusals, file by file: CUT below 2 bytes (so for no file at all), COUNT of section 1, CUT below 14 bytes, PRIME, SHAPE, STRIP, COLUMN for n not
+ * below k+r, FOREIGN for p, k, r, B unlike the first file's or a flag wrong for n, TWICE for a column met again, CUT where the file ends too soon,
+ * COUNT of section 2 or 3; after all files ROOM.
+ */
+airsaffron_answer airsaffron_import(const uint8_t *files, size_t files_length, uint8_t *image, size_t image_length);
+
+/*
+ * How long a slice has to be for `airsaffron_export` of column `column`.
+ * first: the length of the column's file. Refusals: reading, COLUMN.
+ */
+airsaffron_answer airsaffron_file_length(const uint8_t *image, size_t image_length, uint64_t column);
+
+/*
+ * How long an image has to be for `airsaffron_import` of these files.
+ * first: the length of the image that they make. Refusals: as for `airsaffron_import`, but for ROOM.
+ */
+airsaffron_answer airsaffron_files_length(const uint8_t *files, size_t files_length);
 
 #ifdef __cplusplus
 }

@@ -25,8 +25,12 @@ use Rattle.revision.specs.declared.Age.{Age}
 use Rattle.revision.specs.Revision.{age-number, age-distance}
 use Rattle.write.specs.declared.Written.{Written}
 use Rattle.write.specs.declared.Written.the-variants.{Accepted, Aged, Refused as Unwritten}
+use Rattle.columns.specs.declared.Imported.{Imported}
+use Rattle.columns.specs.declared.Imported.the-variants.{Absent, Refused as Unfilled}
+use Rattle.columns.specs.declared.Measured.{Measured}
+use Rattle.columns.specs.declared.Measured.the-variants.{Bytes, Refused as Unmeasured}
 use Rattle.airsaffron.specs.declared.Answer.{Answer}
-use Rattle.airsaffron.specs.Given.{refused-given, element-given, outcome-given, checkup-given, written-given, reading-given, shape-left}
+use Rattle.airsaffron.specs.Given.{refused-given, element-given, outcome-given, checkup-given, written-given, reading-given, shape-left, imported-given, measured-given}
 
 -- ---- the numbers of an answer
 
@@ -57,6 +61,12 @@ module _ (x : Answer) where
     pub wrong-is : (y : Checkup) → y ≡ Wrong a → b ≡ 0 → x ≡ checkup-given y
     wrong-is y e z = h ∙ (ap (λ (m : ℕ). record { refusal = 0; first = a; second = m }) z ∙ ap checkup-given (sym e))
 
+    pub absent-is : (y : Imported) → y ≡ Absent a → b ≡ 0 → x ≡ imported-given y
+    absent-is y e z = h ∙ (ap (λ (m : ℕ). record { refusal = 0; first = a; second = m }) z ∙ ap imported-given (sym e))
+
+    pub bytes-is : (y : Measured) → y ≡ Bytes a → b ≡ 0 → x ≡ measured-given y
+    bytes-is y e z = h ∙ (ap (λ (m : ℕ). record { refusal = 0; first = a; second = m }) z ∙ ap measured-given (sym e))
+
     pub accepted-is : (y : Written) → y ≡ Accepted a b → x ≡ written-given y
     accepted-is y e = h ∙ ap written-given (sym e)
 
@@ -75,6 +85,12 @@ module _ (x : Answer) where
 
     pub no-checkup : (y : Checkup) → y ≡ Unchecked d → x ≡ checkup-given y
     no-checkup y e = h ∙ ap checkup-given (sym e)
+
+    pub no-import : (y : Imported) → y ≡ Unfilled d → x ≡ imported-given y
+    no-import y e = h ∙ ap imported-given (sym e)
+
+    pub no-length : (y : Measured) → y ≡ Unmeasured d → x ≡ measured-given y
+    no-length y e = h ∙ ap measured-given (sym e)
 
     pub no-write : (y : Written) → y ≡ Unwritten d → x ≡ written-given y
     no-write y e = h ∙ (ap (λ (n : ℕ). record { refusal = numberOf d; first = n; second = 0 }) (none-first (eqb (numberOf d) 0)) ∙ ap written-given (sym e))

@@ -17,6 +17,10 @@ use Rattle.parity.specs.declared.Checkup.{Checkup}
 use Rattle.parity.specs.Answer.{outcome-number, checkup-number, checkup-value}
 use Rattle.write.specs.declared.Written.{Written}
 use Rattle.write.specs.Written.{written-number, written-revision, written-count, written-distance}
+use Rattle.columns.specs.declared.Imported.{Imported}
+use Rattle.columns.specs.declared.Measured.{Measured}
+use Rattle.columns.specs.Export.{measured-number, measured-value}
+use Rattle.columns.specs.Import.{imported-number, imported-value}
 use Rattle.airsaffron.specs.declared.Answer.{Answer}
 
 -- a refusal, alone
@@ -27,7 +31,7 @@ refused-given e = record { refusal = numberOf e; first = 0; second = 0 }
 abbrev pub element-given : Element → Answer
 element-given x = record { refusal = element-number x; first = element-value x; second = 0 }
 
--- make, refill, rebuild and restore: nothing more
+-- make, refill, rebuild, restore and export: nothing more
 abbrev pub outcome-given : Outcome → Answer
 outcome-given x = record { refusal = outcome-number x; first = 0; second = 0 }
 
@@ -55,3 +59,11 @@ shape-left shape (Unread e) = shape
 abbrev pub shown-given : Reading → ℕ × ℕ → Answer
 shown-given (Stripe q) at = record { refusal = 0; first = at .0; second = at .1 }
 shown-given (Unread e) at = refused-given e
+
+-- import: the pattern of the absent columns
+abbrev pub imported-given : Imported → Answer
+imported-given x = record { refusal = imported-number x; first = imported-value x; second = 0 }
+
+-- the length of a column's file, or of the image that such files make
+abbrev pub measured-given : Measured → Answer
+measured-given x = record { refusal = measured-number x; first = measured-value x; second = 0 }

@@ -1,4 +1,6 @@
 // The calls for C: each hands on what the call behind it answers, as three numbers. Nothing is asked of the caller.
+use columns::Imported;
+use columns::Measured;
 use parity::Checkup;
 use refusal::Outcome;
 use refusal::Refusal;
@@ -18,7 +20,9 @@ ghost use Rattle.write.specs.Written.{writeOf};
 ghost use Rattle.away.specs.Away.{awayOf};
 ghost use Rattle.rebuild.specs.Answer.{rebuildOf, restoreOf, shown-at};
 ghost use Rattle.pattern.specs.Pattern.{asked};
-ghost use Rattle.airsaffron.specs.Given.{refused-given, element-given, outcome-given, checkup-given, written-given, reading-given, shape-left, shown-given};
+ghost use Rattle.columns.specs.Export.{exportOf, fileLengthOf};
+ghost use Rattle.columns.specs.Import.{importOf, filesLengthOf};
+ghost use Rattle.airsaffron.specs.Given.{refused-given, element-given, outcome-given, checkup-given, written-given, reading-given, shape-left, shown-given, imported-given, measured-given};
 
 // The number of the refusal, or 0, and the values; every one that the call does not name is 0.
 #[repr(C)]
@@ -99,6 +103,26 @@ fn written(w: Written) -> Answer
         Written::Accepted(revision, count) => accepted(revision as u64, count),
         Written::Aged(age) => aged(age),
         Written::Refused(e) => refused(e),
+    }
+}
+
+// The numbers of an import's answer.
+fn imported(i: Imported) -> Answer
+    ensures { λ x. ⌜ x ≡ imported-given i ⌝ }
+{
+    match i {
+        Imported::Absent(absent) => accepted(absent, 0),
+        Imported::Refused(e) => refused(e),
+    }
+}
+
+// The numbers of an answer that is a length.
+fn measured(m: Measured) -> Answer
+    ensures { λ x. ⌜ x ≡ measured-given m ⌝ }
+{
+    match m {
+        Measured::Bytes(n) => accepted(n as u64, 0),
+        Measured::Refused(e) => refused(e),
     }
 }
 
@@ -248,4 +272,38 @@ pub extern "C" fn airsaffron_show(
         return accepted(2, 0);
     }
     accepted(1, rebuild::strip_at(q, n, t) as u64)
+}
+
+// Writes the file of a column of an image.
+#[no_mangle]
+pub extern "C" fn airsaffron_export(image: &[u8], column: u64, file: &mut [u8]) -> Answer
+    ensures { λ x. ⌜ x ≡ outcome-given (exportOf (now (image .entry)) column (now (file .entry)) .answer) ⌝ }
+    ensures { λ _. ⌜ now (file .exit) ≡ exportOf (now (image .entry)) column (now (file .entry)) .image ⌝ }
+{
+    outcome(columns::export(image, column as usize, file))
+}
+
+// Fills an image from column files, one after another.
+#[no_mangle]
+pub extern "C" fn airsaffron_import(files: &[u8], image: &mut [u8]) -> Answer
+    ensures { λ x. ⌜ x ≡ imported-given (importOf (now (files .entry)) (now (image .entry)) .answer) ⌝ }
+    ensures { λ _. ⌜ now (image .exit) ≡ importOf (now (files .entry)) (now (image .entry)) .image ⌝ }
+{
+    imported(columns::import(files, image))
+}
+
+// How long the file of a column of an image is.
+#[no_mangle]
+pub extern "C" fn airsaffron_file_length(image: &[u8], column: u64) -> Answer
+    ensures { λ x. ⌜ x ≡ measured-given (fileLengthOf (now (image .entry)) column) ⌝ }
+{
+    measured(columns::file_length(image, column as usize))
+}
+
+// How long the image is that column files make.
+#[no_mangle]
+pub extern "C" fn airsaffron_files_length(files: &[u8]) -> Answer
+    ensures { λ x. ⌜ x ≡ measured-given (filesLengthOf (now (files .entry))) ⌝ }
+{
+    measured(columns::files_length(files))
 }
