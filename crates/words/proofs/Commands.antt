@@ -6,13 +6,13 @@ use mathlib.Core.List.{List, []}
 use mathlib.Core.Path.{_≡_, sym, _∙_}
 use native.Mathlib.Omega.{arith}
 use lib.ListN.{length, getD}
-use borrow.Author.Tests.{eq-eqb, ne-eqb, lt-ltb, le-ltb}
+use borrow.Author.Tests.{eq-eqb, ne-eqb, lt-ltb, le-ltb, le-leb, lt-leb}
 use denote.Index.{row}
 use denote.Ref.{name}
-use Rattle.words.specs.Command.{show-words, write-words, make-words, columns-in, number-in, asks-for, rebuild-words, check-name, make-name, refill-name, show-name, short-command, rebuild-name, report-name, write-name, commandOf, help-name}
+use Rattle.words.specs.Command.{show-words, write-words, make-words, columns-in, number-in, asks-for, rebuild-words, check-name, make-name, refill-name, show-name, short-command, rebuild-name, report-name, write-name, commandOf, help-name, asks-from, export-words, export-name, import-name}
 use Rattle.words.specs.Words.{same-bytes}
 use Rattle.words.specs.declared.Command.{Command}
-use Rattle.words.specs.declared.Command.the-variants.{Make, Write, Rebuild, Show, Usage, Refill, Report, Check, Help}
+use Rattle.words.specs.declared.Command.the-variants.{Make, Write, Rebuild, Show, Usage, Refill, Report, Check, Help, Export, Import}
 use Rattle.words.specs.declared.Lost.{Lost}
 use Rattle.words.specs.declared.Lost.the-variants.{Columns, NoList}
 use Rattle.words.specs.declared.Number.{Number}
@@ -27,6 +27,14 @@ other-count ws name n x e h = rw (ne-eqb (length ws) n (λ g. h (e ∙ g)))
 pub same-count : (ws : List (List ℕ)) (w name : List ℕ) (n x : ℕ) (t : Bool) → x ≡ length ws → x ≡ n → w ≡ getD ws 0 [] → t ≡ same-bytes w name → t ≡ asks-for ws name n
 unfolding asks-for
 same-count ws w name n x t e h g f = rw (eq-eqb (length ws) n (sym e ∙ h)) (rw g at f)
+
+pub too-few : (ws : List (List ℕ)) (name : List ℕ) (n x : ℕ) → x ≡ length ws → x < n → false ≡ asks-from ws name n
+unfolding asks-from
+too-few ws name n x e h = rw (lt-leb n (length ws) (omega arith))
+
+pub enough : (ws : List (List ℕ)) (w name : List ℕ) (n x : ℕ) (t : Bool) → x ≡ length ws → n ≤ x → w ≡ getD ws 0 [] → t ≡ same-bytes w name → t ≡ asks-from ws name n
+unfolding asks-from
+enough ws w name n x t e h g f = rw (le-leb n (length ws) (omega arith)) (rw g at f)
 
 -- ---- numbers and lists
 
@@ -59,6 +67,14 @@ module _ (ws : List (List ℕ)) where
     pub no-column : v₂ ≡ NoNumber → Usage ≡ write-words ws
     unfolding write-words
     no-column g = rw (sym e₂ ∙ g)
+
+    pub export-none : v₂ ≡ NoNumber → Usage ≡ export-words ws
+    unfolding export-words
+    export-none g = rw (sym e₂ ∙ g)
+
+    pub export-one : (column : ℕ) → v₂ ≡ Value column → Export column ≡ export-words ws
+    unfolding export-words
+    export-one column g = rw (sym e₂ ∙ g)
 
     module _ (column : ℕ) (g₂ : v₂ ≡ Value column) (v₃ : Number) (e₃ : v₃ ≡ number-in ws 3) where
       pub no-row : v₃ ≡ NoNumber → Usage ≡ write-words ws
@@ -163,6 +179,16 @@ module _ (ws : List (List ℕ)) where
             unfolding commandOf
             asks-show x h g = rw (sym e₁ ∙ f₁, sym e₂ ∙ f₂, sym e₃ ∙ f₃, sym e₄ ∙ f₄, sym e₅ ∙ g) h
 
-            pub asks-short : (x : Command) → x ≡ short-command ws → t₅ ≡ false → x ≡ commandOf ws
-            unfolding commandOf
-            asks-short x h g = rw (sym e₁ ∙ f₁, sym e₂ ∙ f₂, sym e₃ ∙ f₃, sym e₄ ∙ f₄, sym e₅ ∙ g) h
+            module _ (f₅ : t₅ ≡ false) (t₆ : Bool) (e₆ : t₆ ≡ asks-for ws export-name 4) where
+              pub asks-export : (x : Command) → x ≡ export-words ws → t₆ ≡ true → x ≡ commandOf ws
+              unfolding commandOf
+              asks-export x h g = rw (sym e₁ ∙ f₁, sym e₂ ∙ f₂, sym e₃ ∙ f₃, sym e₄ ∙ f₄, sym e₅ ∙ f₅, sym e₆ ∙ g) h
+
+              module _ (f₆ : t₆ ≡ false) (t₇ : Bool) (e₇ : t₇ ≡ asks-from ws import-name 3) where
+                pub asks-import : t₇ ≡ true → Import ≡ commandOf ws
+                unfolding commandOf
+                asks-import g = rw (sym e₁ ∙ f₁, sym e₂ ∙ f₂, sym e₃ ∙ f₃, sym e₄ ∙ f₄, sym e₅ ∙ f₅, sym e₆ ∙ f₆, sym e₇ ∙ g)
+
+                pub asks-short : (x : Command) → x ≡ short-command ws → t₇ ≡ false → x ≡ commandOf ws
+                unfolding commandOf
+                asks-short x h g = rw (sym e₁ ∙ f₁, sym e₂ ∙ f₂, sym e₃ ∙ f₃, sym e₄ ∙ f₄, sym e₅ ∙ f₅, sym e₆ ∙ f₆, sym e₇ ∙ g) h

@@ -4,9 +4,11 @@ use Prim.Native.Nat.{_^_}
 use mathlib.Core.List.{[], _∷_}
 use mathlib.Core.Path.{_≡_, refl}
 use Rattle.laws.specs.Bit.{bit, pack}
+use Rattle.words.specs.Command.{asks-for, asks-from, commandOf, short-command, import-name}
 use Rattle.words.specs.Columns.{named, columnsOf, with-column}
 use Rattle.words.specs.Decimal.{spelled, decimalOf, all-digits, is-digit, is-numeral}
 use Rattle.words.specs.Words.{before-first, same-bytes, parts}
+use Rattle.words.specs.declared.Command.the-variants.{Import, Usage}
 use Rattle.words.specs.declared.Lost.the-variants.{Columns, NoList}
 use Rattle.words.specs.declared.Number.the-variants.{Value, NoNumber}
 
@@ -51,3 +53,16 @@ far-column = refl
 dash : columnsOf (45 ∷ []) ≡ Columns 0
 unfolding columnsOf same-bytes
 dash = refl
+
+-- an import of no file gets usage; one file is enough, and more are taken
+no-file : commandOf (import-name ∷ [] ∷ []) ≡ Usage
+unfolding commandOf asks-for asks-from short-command same-bytes
+no-file = refl
+
+one-file : commandOf (import-name ∷ [] ∷ [] ∷ []) ≡ Import
+unfolding commandOf asks-for asks-from same-bytes
+one-file = refl
+
+more-files : commandOf (import-name ∷ [] ∷ [] ∷ [] ∷ [] ∷ [] ∷ [] ∷ []) ≡ Import
+unfolding commandOf asks-for asks-from same-bytes
+more-files = refl

@@ -1,11 +1,12 @@
 -- "depot make P K R B DATA IMAGE", "depot check IMAGE", "depot refill IMAGE", "depot write IMAGE COLUMN ROW BASE STRIP [LOST]",
 -- "depot rebuild IMAGE LOST", "depot show IMAGE LOST COLUMN ROW", "depot report IMAGE", "depot help";
+-- request 4: "export IMAGE COLUMN FILE", "import IMAGE FILE..";
 -- "words that are no number, numbers above 2^64 - 1, missing or surplus words get one line of usage".
 -- Assumes nothing.
 use Prim.Native.Nat.{ℕ, _^_}
 use mathlib.Core.Bool.{Bool, true, false, _&&_}
 use mathlib.Core.List.{List, [], _∷_}
-use lib.Dec.{eqb, ltb}
+use lib.Dec.{eqb, ltb, leb}
 use lib.ListN.{length, getD}
 use Rattle.laws.specs.Choose.{choose}
 use Rattle.words.specs.declared.Number.{Number}
@@ -13,7 +14,7 @@ use Rattle.words.specs.declared.Number.the-variants.{Value, NoNumber}
 use Rattle.words.specs.declared.Lost.{Lost}
 use Rattle.words.specs.declared.Lost.the-variants.{Columns, NoList}
 use Rattle.words.specs.declared.Command.{Command}
-use Rattle.words.specs.declared.Command.the-variants.{Make, Check, Refill, Write, Rebuild, Show, Report, Help, Usage}
+use Rattle.words.specs.declared.Command.the-variants.{Make, Check, Refill, Write, Rebuild, Show, Export, Import, Report, Help, Usage}
 use Rattle.words.specs.Words.{same-bytes}
 use Rattle.words.specs.Decimal.{decimalOf}
 use Rattle.words.specs.Columns.{columnsOf}
@@ -31,6 +32,12 @@ rebuild-name = 114 ∷ 101 ∷ 98 ∷ 117 ∷ 105 ∷ 108 ∷ 100 ∷ []
 abbrev pub show-name : List ℕ
 show-name = 115 ∷ 104 ∷ 111 ∷ 119 ∷ []
 
+abbrev pub export-name : List ℕ
+export-name = 101 ∷ 120 ∷ 112 ∷ 111 ∷ 114 ∷ 116 ∷ []
+
+abbrev pub import-name : List ℕ
+import-name = 105 ∷ 109 ∷ 112 ∷ 111 ∷ 114 ∷ 116 ∷ []
+
 abbrev pub check-name : List ℕ
 check-name = 99 ∷ 104 ∷ 101 ∷ 99 ∷ 107 ∷ []
 
@@ -46,6 +53,10 @@ help-name = 104 ∷ 101 ∷ 108 ∷ 112 ∷ []
 -- the words are n, and the first is the name
 unfoldable pub asks-for : List (List ℕ) → List ℕ → ℕ → Bool
 asks-for ws name n = eqb (length ws) n && same-bytes (getD ws 0 []) name
+
+-- the words are n or more, and the first is the name
+unfoldable pub asks-from : List (List ℕ) → List ℕ → ℕ → Bool
+asks-from ws name n = leb n (length ws) && same-bytes (getD ws 0 []) name
 
 -- a word that is no number gets usage, and so does one that is no list of columns
 abbrev pub with-number : Number → (ℕ → Command) → Command
@@ -80,6 +91,9 @@ unfoldable pub show-words : List (List ℕ) → Command
 show-words ws =
     with-columns (columns-in ws 2) (λ lost. with-number (number-in ws 3) (λ column. with-number (number-in ws 4) (λ row. Show lost column row)))
 
+unfoldable pub export-words : List (List ℕ) → Command
+export-words ws = with-number (number-in ws 2) (λ column. Export column)
+
 -- check, refill, report, help
 unfoldable pub short-command : List (List ℕ) → Command
 short-command ws =
@@ -89,7 +103,7 @@ short-command ws =
     (choose (asks-for ws help-name 1) Help
     Usage)))
 
--- make, write, rebuild, show, then those
+-- make, write, rebuild, show, export, import with one file or more, then those
 unfoldable pub commandOf : List (List ℕ) → Command
 commandOf ws =
     choose (asks-for ws make-name 7) (make-words ws)
@@ -97,4 +111,6 @@ commandOf ws =
     (choose (asks-for ws write-name 7) (write-words ws)
     (choose (asks-for ws rebuild-name 3) (rebuild-words ws)
     (choose (asks-for ws show-name 5) (show-words ws)
-    (short-command ws)))))
+    (choose (asks-for ws export-name 4) (export-words ws)
+    (choose (asks-from ws import-name 3) Import
+    (short-command ws)))))))

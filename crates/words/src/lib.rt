@@ -6,7 +6,7 @@ ghost use lib.ListN.{length, getD};
 ghost use Rattle.words.specs.Words.{parts, same-bytes, Cut};
 ghost use Rattle.words.specs.Decimal.{digit-or-ten, decimalOf};
 ghost use Rattle.words.specs.Columns.{with-column, named, columnsOf};
-ghost use Rattle.words.specs.Command.{asks-for, make-words, write-words, rebuild-words, show-words, short-command, commandOf};
+ghost use Rattle.words.specs.Command.{asks-for, asks-from, make-words, write-words, rebuild-words, show-words, export-words, short-command, commandOf};
 
 // A number, or a word that is none.
 pub enum Number {
@@ -20,7 +20,7 @@ pub enum Lost {
     NoList,
 }
 
-// What a line asks for: p, k, r and B; column, row, base and a pattern; a pattern; a pattern, column and row.
+// What a line asks for: p, k, r and B; column, row, base and a pattern; a pattern; a pattern, column and row; a column.
 pub enum Command {
     Make(usize, usize, usize, usize),
     Check,
@@ -28,6 +28,8 @@ pub enum Command {
     Write(usize, usize, u32, u64),
     Rebuild(u64),
     Show(u64, usize, usize),
+    Export(usize),
+    Import,
     Report,
     Help,
     Usage,
@@ -194,6 +196,16 @@ fn asks(line: &[u8], mark: u8, name: &[u8], n: usize) -> bool
     same(word(line, mark, 0), name)
 }
 
+// The same with n words or more.
+fn asks_from(line: &[u8], mark: u8, name: &[u8], n: usize) -> bool
+    ensures { λ x. ⌜ x ≡ asks-from (parts mark (now (line .entry))) (now (name .entry)) n ⌝ }
+{
+    if count(line, mark) < n {
+        return false;
+    }
+    same(word(line, mark, 0), name)
+}
+
 // The number that word i of a line is.
 fn number_at(line: &[u8], mark: u8, i: usize) -> Number
     ensures { λ x. ⌜ x ≡ decimalOf (getD (parts mark (now (line .entry))) i []) ⌝ }
@@ -275,6 +287,16 @@ fn show_words(line: &[u8], mark: u8) -> Command
     Command::Show(lost, column as usize, row as usize)
 }
 
+// export IMAGE COLUMN FILE
+fn export_words(line: &[u8], mark: u8) -> Command
+    ensures { λ x. ⌜ x ≡ export-words (parts mark (now (line .entry))) ⌝ }
+{
+    let Number::Value(column) = number_at(line, mark, 2) else {
+        return Command::Usage;
+    };
+    Command::Export(column as usize)
+}
+
 // The command among those with an image and nothing else, and help.
 fn parse_short(line: &[u8], mark: u8) -> Command
     ensures { λ x. ⌜ x ≡ short-command (parts mark (now (line .entry))) ⌝ }
@@ -312,6 +334,12 @@ pub fn parse(line: &[u8], mark: u8) -> Command
     }
     if asks(line, mark, b"show", 5) {
         return show_words(line, mark);
+    }
+    if asks(line, mark, b"export", 4) {
+        return export_words(line, mark);
+    }
+    if asks_from(line, mark, b"import", 3) {
+        return Command::Import;
     }
     parse_short(line, mark)
 }

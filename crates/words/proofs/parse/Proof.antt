@@ -1,7 +1,7 @@
 -- `words::parse` meets its contract.
 -- Assumes nothing.
+use Rattle.words.proofs.Commands.{asks-make, asks-write, asks-away, asks-short, asks-show, asks-rebuild, asks-export, asks-import}
 use borrow.Author.Needs.{needs}
-use Rattle.words.proofs.Commands.{asks-make, asks-write, asks-away, asks-short, asks-show, asks-rebuild}
 use Rattle.words.proofs.parse.Statement.{statement}
 use Rattle.words.proofs.parse.Tie as tie
 
@@ -65,11 +65,32 @@ show-words-requires c κs = search needs
 returns-5 : tie.Need-returns-5
 returns-5 c = search asks-show
 
+slice-aggregate-asks-6 : tie.Need-slice-aggregate-asks-6
+slice-aggregate-asks-6 c = search needs
+
+asks-requires-6 : tie.Need-asks-requires-6
+asks-requires-6 c κs = search needs
+
+export-words-requires : tie.Need-export-words-requires
+export-words-requires c κs = search needs
+
+returns-6 : tie.Need-returns-6
+returns-6 c = search asks-export
+
+slice-aggregate-asks-from : tie.Need-slice-aggregate-asks-from
+slice-aggregate-asks-from c = search needs
+
+asks-from-requires : tie.Need-asks-from-requires
+asks-from-requires c κs = search needs
+
+returns-7 : tie.Need-returns-7
+returns-7 c = search asks-import
+
 parse-short-requires : tie.Need-parse-short-requires
 parse-short-requires c κs = search needs
 
-returns-6 : tie.Need-returns-6
-returns-6 c = search asks-short
+returns-8 : tie.Need-returns-8
+returns-8 c = search asks-short
 
 pub parse-spec : {M : Type 1} → statement M
 parse-spec =
@@ -95,5 +116,12 @@ parse-spec =
     asks-requires-5
     show-words-requires
     returns-5
+    slice-aggregate-asks-6
+    asks-requires-6
+    export-words-requires
+    returns-6
+    slice-aggregate-asks-from
+    asks-from-requires
+    returns-7
     parse-short-requires
-    returns-6)
+    returns-8)
