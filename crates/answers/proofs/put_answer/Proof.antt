@@ -1,7 +1,7 @@
 -- `answers::put_answer` meets its contract.
 -- Assumes nothing.
-use borrow.Author.Needs.{needs}
 use Rattle.answers.proofs.Lines.{line-told, nothing-told}
+use borrow.Author.Needs.{needs}
 use Rattle.answers.proofs.put_answer.Statement.{statement}
 use Rattle.answers.proofs.put_answer.Tie as tie
 
@@ -23,17 +23,23 @@ put-word-requires c κs = search needs
 enum-known-answer-2 : tie.Need-enum-known-answer-2
 enum-known-answer-2 c = search needs
 
-put-accepted-requires : tie.Need-put-accepted-requires
-put-accepted-requires c κs = search needs
+put-absent-requires : tie.Need-put-absent-requires
+put-absent-requires c κs = search needs
 
 enum-known-answer-3 : tie.Need-enum-known-answer-3
 enum-known-answer-3 c = search needs
 
-put-aged-requires : tie.Need-put-aged-requires
-put-aged-requires c κs = search needs
+put-accepted-requires : tie.Need-put-accepted-requires
+put-accepted-requires c κs = search needs
 
 enum-known-answer-4 : tie.Need-enum-known-answer-4
 enum-known-answer-4 c = search needs
+
+put-aged-requires : tie.Need-put-aged-requires
+put-aged-requires c κs = search needs
+
+enum-known-answer-5 : tie.Need-enum-known-answer-5
+enum-known-answer-5 c = search needs
 
 put-refused-requires : tie.Need-put-refused-requires
 put-refused-requires c κs = search needs
@@ -71,8 +77,14 @@ same-length-5 c = search needs
 returns-5 : tie.Need-returns-5
 returns-5 c = search line-told
 
+same-length-6 : tie.Need-same-length-6
+same-length-6 c = search needs
+
 returns-6 : tie.Need-returns-6
-returns-6 c = search nothing-told
+returns-6 c = search line-told
+
+returns-7 : tie.Need-returns-7
+returns-7 c = search nothing-told
 
 pub put-answer-spec : {M : Type 1} → statement M
 put-answer-spec =
@@ -84,10 +96,12 @@ put-answer-spec =
     enum-known-answer
     put-word-requires
     enum-known-answer-2
-    put-accepted-requires
+    put-absent-requires
     enum-known-answer-3
-    put-aged-requires
+    put-accepted-requires
     enum-known-answer-4
+    put-aged-requires
+    enum-known-answer-5
     put-refused-requires
     enum-told-2
     same-length
@@ -100,4 +114,6 @@ put-answer-spec =
     returns-4
     same-length-5
     returns-5
-    returns-6)
+    same-length-6
+    returns-6
+    returns-7)
