@@ -1,6 +1,8 @@
-// The commands of the depot: files of images that are made, looked at and changed.
+// The commands of the depot: files of images that are made, looked at and changed, and the column files of an image.
 // A changed image goes to a new file beside the old one; that is synced and looked at again before it takes the old one's name.
 use answers::Answer;
+use columns::Imported;
+use columns::Measured;
 use files::Taken;
 use parity::Checkup;
 use refusal::Outcome;
@@ -11,9 +13,17 @@ use words::Command;
 use write::Written;
 ghost use mathlib.Core.Path.{_≡_};
 ghost use Prim.Native.Nat.{_≤_};
-ghost use lib.ListN.{length};
+ghost use lib.ListN.{length, replicate};
+ghost use Rattle.columns.specs.Export.{measured-value};
 
-// An image that a command changed in its buffer: the answer, and its length.
+// Room for what an import takes. Accepted files are no longer than those of all columns; whatever follows them is refused by the section one of one
+// file more. So files that are cut at this length are answered as the whole is.
+const FILES_ROOM: usize = columns::LARGEST_FILES + column_file::CARRIED_AT;
+
+// Room for the words of an import of every column: its name, an image and the files, each path of up to 4,096 bytes.
+const LINE_ROOM: usize = (Params::LARGEST_PRIME + 2) * 4096;
+
+// An image, or a column's file, that a command made or changed in its buffer: the answer, and its length.
 struct Changed {
     answer: Answer,
     length: usize,
@@ -35,6 +45,23 @@ fn room(p: usize, k: usize, r: usize, b: usize) -> usize
         Checked::Sound(q) => q.image_length(),
         Checked::Refused(_) => 0,
     }
+}
+
+// How many bytes were measured; 0 where that was refused.
+fn measured_room(measured: Measured) -> usize
+    ensures { λ n. ⌜ n ≡ measured-value measured ⌝ }
+{
+    match measured {
+        Measured::Bytes(n) => n,
+        Measured::Refused(_) => 0,
+    }
+}
+
+// Room for the other files of a command: data, an image that is only read, or column files.
+fn blank_files() -> [u8; FILES_ROOM]
+    ensures { λ x. ⌜ (x ≡ replicate 1875272 0) × (length x ≡ 1875272) ⌝ }
+{
+    [0u8; FILES_ROOM]
 }
 
 // check: which parities are wrong.
@@ -104,23 +131,19 @@ fn said(outcome: Outcome) -> Answer {
     }
 }
 
-// make: the image of a file's data; an image that is there already stays.
+// make: the image of a file's data.
 fn make(
     p: usize,
     k: usize,
     r: usize,
     b: usize,
     from: &[u8],
-    path: &[u8],
     image: &mut [u8],
     other: &mut [u8],
 ) -> Changed
     requires { ⌜ 1874176 ≤ length (now image) ⌝ }
     ensures { λ x. ⌜ x .length ≤ length (now (image .exit)) ⌝ }
 {
-    if !files::is_free(path) {
-        return nothing();
-    }
     let Taken::Bytes(m) = files::take(from, other) else {
         return nothing();
     };
@@ -195,7 +218,72 @@ fn write_strip(
     }
 }
 
-// The commands that change an image, in its buffer.
+// export: the file of one column of an image.
+fn export(column: usize, from: &[u8], file: &mut [u8], image: &mut [u8]) -> Changed
+    requires { ⌜ 1874176 ≤ length (now file) ⌝ }
+    ensures { λ x. ⌜ x .length ≤ length (now (file .exit)) ⌝ }
+{
+    let Taken::Bytes(m) = files::take(from, image) else {
+        return nothing();
+    };
+    let n = measured_room(columns::file_length(&image[0..m], column));
+    let outcome = columns::export(&image[0..m], column, &mut file[0..n]);
+    Changed {
+        answer: said(outcome),
+        length: n,
+    }
+}
+
+// The answer of an import.
+fn absent(imported: Imported) -> Answer {
+    match imported {
+        Imported::Absent(w) => Answer::Absent(w),
+        Imported::Refused(e) => Answer::Refused(e),
+    }
+}
+
+// import: the image of column files.
+fn import(line: &[u8], mark: u8, image: &mut [u8], other: &mut [u8]) -> Changed
+    requires { ⌜ 1874176 ≤ length (now image) ⌝ }
+    ensures { λ x. ⌜ x .length ≤ length (now (image .exit)) ⌝ }
+{
+    let Taken::Bytes(m) = files::take_each(line, mark, 2, other) else {
+        return nothing();
+    };
+    let n = measured_room(columns::files_length(&other[0..m]));
+    let imported = columns::import(&other[0..m], &mut image[0..n]);
+    Changed {
+        answer: absent(imported),
+        length: n,
+    }
+}
+
+// Whether a command makes a new file; one that is there already stays.
+fn is_making(command: Command) -> bool {
+    match command {
+        Command::Make(_, _, _, _) => true,
+        Command::Export(_) => true,
+        Command::Import => true,
+        Command::Check => false,
+        Command::Refill => false,
+        Command::Write(_, _, _, _) => false,
+        Command::Rebuild(_) => false,
+        Command::Show(_, _, _) => false,
+        Command::Report => false,
+        Command::Help => false,
+        Command::Usage => false,
+    }
+}
+
+// Which word of a command names the file that it reads beside the one that it makes or changes: IMAGE, or else DATA or STRIP.
+fn from_at(command: Command) -> usize {
+    match command {
+        Command::Export(_) => 1,
+        _ => 5,
+    }
+}
+
+// The commands that make or change a file, in its buffer.
 fn change_by(
     command: Command,
     line: &[u8],
@@ -207,32 +295,32 @@ fn change_by(
     requires { ⌜ 1874176 ≤ length (now image) ⌝ }
     ensures { λ x. ⌜ x .length ≤ length (now (image .exit)) ⌝ }
 {
+    if is_making(command) && !files::is_free(path) {
+        return nothing();
+    }
+    let from = words::word(line, mark, from_at(command));
     match command {
-        Command::Make(p, k, r, b) => {
-            make(p, k, r, b, words::word(line, mark, 5), path, image, other)
-        }
+        Command::Make(p, k, r, b) => make(p, k, r, b, from, image, other),
         Command::Write(column, row, base, lost) => {
-            write_strip(
-                column,
-                row,
-                base,
-                lost,
-                words::word(line, mark, 5),
-                path,
-                image,
-            )
+            write_strip(column, row, base, lost, from, path, image)
         }
         Command::Rebuild(lost) => rebuild_lost(lost, path, image),
+        Command::Export(column) => export(column, from, image, other),
+        Command::Import => import(line, mark, image, other),
         _ => refill(path, image),
     }
 }
 
-// Whether an answer says that the image was changed.
+// Whether an answer says that there is something new to keep.
 fn is_change(answer: Answer) -> bool {
     match answer {
         Answer::Done => true,
+        Answer::Absent(_) => true,
         Answer::Accepted(_, _) => true,
-        _ => false,
+        Answer::Word(_) => false,
+        Answer::Aged(_) => false,
+        Answer::Refused(_) => false,
+        Answer::Said => false,
     }
 }
 
@@ -308,9 +396,11 @@ depot refill IMAGE                               all parity anew from the data
 depot write IMAGE COLUMN ROW BASE STRIP [LOST]   a new strip against a revision: the new one and the parity strips changed
 depot rebuild IMAGE LOST                         the lost columns from the others
 depot show IMAGE LOST COLUMN ROW                 a strip, restored if its column is lost
+depot export IMAGE COLUMN FILE                   a new file of one column, for its box
+depot import IMAGE FILE..                        a new image from column files in any order: the absent columns, in the form of LOST
 depot report IMAGE                               parameters, revisions, each parity right or wrong
 depot help                                       these lines
-LOST: columns such as 0,3, or - for none; data columns come first, then parity. DATA, STRIP and IMAGE are files.
+LOST: columns such as 0,3, or - for none; data columns come first, then parity. DATA, STRIP, IMAGE and FILE are files.
 refused 10 STALE 3: BASE is three notes behind the column's revision; refused 11 AHEAD 3: three ahead of it.
 refused 17 UNCLEAR 0: they lie exactly 2^31 apart, so that nobody can tell which is newer.
 ",
@@ -322,15 +412,16 @@ refused 17 UNCLEAR 0: they lie exactly 2^31 apart, so that nobody can tell which
 fn usage() -> Answer {
     io::write_all(
         2,
-        b"usage: depot make P K R B DATA IMAGE | check IMAGE | refill IMAGE | write IMAGE COLUMN ROW BASE STRIP [LOST] | rebuild IMAGE LOST | show IMAGE LOST COLUMN ROW | report IMAGE | help\n",
+        b"usage: depot make P K R B DATA IMAGE | check IMAGE | refill IMAGE | write IMAGE COLUMN ROW BASE STRIP [LOST] | rebuild IMAGE LOST | show IMAGE LOST COLUMN ROW | export IMAGE COLUMN FILE | import IMAGE FILE.. | report IMAGE | help\n",
     );
     Answer::Said
 }
 
-// Which word of a command names its image.
+// Which word of a command names the file that it changes or makes, or else looks at.
 fn path_at(command: Command) -> usize {
     match command {
         Command::Make(_, _, _, _) => 6,
+        Command::Export(_) => 3,
         _ => 1,
     }
 }
@@ -353,13 +444,13 @@ fn perform(command: Command, line: &[u8], mark: u8, image: &mut [u8], other: &mu
 // Does what the words of a line ask, and answers.
 pub fn run(line: &[u8], mark: u8) {
     let mut image = files::blank();
-    let mut other = files::blank();
+    let mut other = blank_files();
     tell(perform(words::parse(line, mark), line, mark, &mut image, &mut other));
 }
 
 // Does what the program's arguments ask.
 pub fn run_arguments() {
-    let mut line = [0u8; 16384];
+    let mut line = [0u8; LINE_ROOM];
     let taken = files::gather(&mut line);
     match taken {
         Taken::Bytes(n) => run(&line[0..n], 0),

@@ -51,6 +51,23 @@ pub fn take(path: &[u8], buf: &mut [u8]) -> Taken
     taken
 }
 
+// Takes the files that a line names from a word on, one after another, as much of them as the buffer holds.
+pub fn take_each(line: &[u8], mark: u8, from: usize, buf: &mut [u8]) -> Taken
+    ensures { λ x. ⌜ Within (now (buf .exit)) x ⌝ }
+{
+    let count = words::count(line, mark);
+    let mut n: usize = 0;
+    let mut i = from;
+    while i < count {
+        let Taken::Bytes(more) = take(words::word(line, mark, i), &mut buf[n..]) else {
+            return Taken::Nothing;
+        };
+        n += more;
+        i += 1;
+    }
+    Taken::Bytes(n)
+}
+
 // How many of the next bytes of a file are those of the slice; 0 where they are not, or the file ends.
 fn match_some(fd: i32, bytes: &[u8]) -> usize
     ensures { λ n. ⌜ n ≤ length (now (bytes .entry)) ⌝ }

@@ -1,18 +1,9 @@
 -- `commands::make` meets its contract.
 -- Assumes nothing.
-use borrow.Author.Needs.{needs}
 use Rattle.files.proofs.Laws.{taken-within}
+use borrow.Author.Needs.{needs}
 use Rattle.commands.proofs.make.Statement.{statement}
 use Rattle.commands.proofs.make.Tie as tie
-
-is-free-requires : tie.Need-is-free-requires
-is-free-requires c κs = search needs
-
-nothing-requires : tie.Need-nothing-requires
-nothing-requires c κs = search needs
-
-returns : tie.Need-returns
-returns c = search needs
 
 take-requires : tie.Need-take-requires
 take-requires c κs = search needs
@@ -23,14 +14,14 @@ enum-known-m c = search needs
 enum-told : tie.Need-enum-told
 enum-told c = search needs
 
-nothing-requires-2 : tie.Need-nothing-requires-2
-nothing-requires-2 c κs = search needs
+nothing-requires : tie.Need-nothing-requires
+nothing-requires c κs = search needs
 
 same-length : tie.Need-same-length
 same-length c = search needs
 
-returns-2 : tie.Need-returns-2
-returns-2 c = search needs
+returns : tie.Need-returns
+returns c = search needs
 
 room-requires : tie.Need-room-requires
 room-requires c κs = search needs
@@ -65,22 +56,19 @@ same-length-2 c = search needs
 same-length-3 : tie.Need-same-length-3
 same-length-3 c = search needs
 
-returns-3 : tie.Need-returns-3
-returns-3 c = search needs
+returns-2 : tie.Need-returns-2
+returns-2 c = search needs
 
 pub make-spec : {M : Type 1} → statement M
 make-spec =
     tie.close
     (tie.spec
-    is-free-requires
-    nothing-requires
-    returns
     take-requires
     enum-known-m
     enum-told
-    nothing-requires-2
+    nothing-requires
     same-length
-    returns-2
+    returns
     room-requires
     sub-make
     part-make-start
@@ -92,4 +80,4 @@ make-spec =
     said-requires
     same-length-2
     same-length-3
-    returns-3)
+    returns-2)
