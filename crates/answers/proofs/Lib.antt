@@ -1,4 +1,5 @@
 pub mod Lines
 pub mod Lists
+pub mod Reading
 pub mod Names
 pub mod Examples

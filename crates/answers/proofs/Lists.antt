@@ -1,18 +1,18 @@
 -- Laws of the list of a pattern's columns.
 -- Assumes nothing.
-use Prim.Native.Nat.{ℕ, zero, suc, _+_, _*_, _/_, _%_, _^_, _<_, _≤_}
-use mathlib.Core.Bool.{Bool, true, false, _&&_}
+use Prim.Native.Nat.{ℕ, _+_, _/_, _%_, _^_, _<_, _≤_}
+use mathlib.Core.Bool.{Bool, true, false}
 use mathlib.Core.List.{List, [], _∷_, _++_, append-nil}
-use mathlib.Core.Path.{_≡_, refl, sym, ap, subst, _∙_}
+use mathlib.Core.Path.{_≡_, sym, subst, _∙_}
 use native.Mathlib.Numerals.{add-one}
 use native.Mathlib.Omega.{arith}
 use lib.Dec.{eqb, leb, T}
 use lib.ListN.{length, take, length-append}
 use borrow.Author.Tests.{eq-eqb, ne-eqb, leb-true}
 use Rattle.laws.proofs.Bit.{bit-digit}
-use Rattle.laws.proofs.Choose.{below-at, T-true, and-left, and-right}
+use Rattle.laws.proofs.Choose.{below-at, T-true}
 use Rattle.laws.specs.Bit.{bit}
-use Rattle.laws.specs.Choose.{choose, below}
+use Rattle.laws.specs.Choose.{below}
 use Rattle.laws.specs.Sum.{total}
 use Rattle.texts.proofs.Putting.{put-two}
 use Rattle.texts.specs.Text.{Put, text, places, bytes}
@@ -29,18 +29,14 @@ a-comma s t n x first e p = subst (λ (b : Bool). Put s t n x (comma b)) (sym e)
 pub comma-end : (s t : List ℕ) (n x : ℕ) → Put s t n x (44 ∷ []) → x ≤ n + 1
 comma-end s t n x p = omega (arith, p .place)
 
--- ---- a column has one digit or two
+-- ---- a column has two digits at most
 
-short-texts : T (below 64 (λ i. leb 1 (length (text i)) && leb (length (text i)) 2))
+short-texts : T (below 64 (λ i. leb (length (text i)) 2))
 unfolding below text places total
 short-texts = tt
 
-text-length : (i : ℕ) → i < 64 → (1 ≤ length (text i)) × (length (text i) ≤ 2)
-text-length i h =
-    let t = below-at (λ j. leb 1 (length (text j)) && leb (length (text j)) 2) 64 short-texts i h in (
-      leb-true 1 (length (text i)) (T-true (leb 1 (length (text i))) (and-left (leb 1 (length (text i))) (leb (length (text i)) 2) t)),
-      leb-true (length (text i)) 2 (T-true (leb (length (text i)) 2) (and-right (leb 1 (length (text i))) (leb (length (text i)) 2) t)),
-    )
+text-short : (i : ℕ) → i < 64 → length (text i) ≤ 2
+text-short i h = leb-true (length (text i)) 2 (T-true (leb (length (text i)) 2) (below-at (λ j. leb (length (text j)) 2) 64 short-texts i h))
 
 comma-short : (first : Bool) → length (comma first) ≤ 1
 comma-short true = omega arith
@@ -60,7 +56,7 @@ module _ (w i : ℕ) (first : Bool) where
   next-put s t n x e p = let f : bit w i ≡ 1 = omega (arith, bit-digit w i) in rw (eq-eqb (bit w i) 1 f) p
 
   pub next-end : (s t : List ℕ) (n x : ℕ) → i < 64 → Put s t n x (comma first ++ text i) → x ≤ n + 3
-  next-end s t n x h p = omega (arith, p .place, length-append (comma first) (text i), comma-short first, text-length i h .1)
+  next-end s t n x h p = omega (arith, p .place, length-append (comma first) (text i), comma-short first, text-short i h)
 
 -- x is where the list ends so far; nothing stands in it where it ends at its start
 none-there : (v : List ℕ) (n x : ℕ) → x ≡ n + length v → eqb x n ≡ is-none v
