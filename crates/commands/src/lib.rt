@@ -16,8 +16,7 @@ ghost use Prim.Native.Nat.{_≤_};
 ghost use lib.ListN.{length, replicate};
 ghost use Rattle.columns.specs.Export.{measured-value};
 
-// Room for what an import takes. Accepted files are no longer than those of all columns; whatever follows them is refused by the section one of one
-// file more. So files that are cut at this length are answered as the whole is.
+// Room for the files of all columns, and for the section one of a file more: by that all that follows is refused as in the whole.
 const FILES_ROOM: usize = columns::LARGEST_FILES + column_file::CARRIED_AT;
 
 // Room for the words of an import of every column: its name, an image and the files, each path of up to 4,096 bytes.
