@@ -2,6 +2,7 @@
 use refusal::Refusal;
 use revision::Age;
 use texts::put;
+use texts::put_digits;
 use texts::put_last;
 use texts::put_last_pair;
 use texts::put_number;
@@ -95,9 +96,7 @@ fn put_column(line: &mut [u8], n: usize, first: bool, column: u64) -> usize
     ensures { λ x. ⌜ Put (now (line .entry)) (now (line .exit)) n x (comma first ++ text column) ⌝ }
 {
     let m = put_comma(line, n, first);
-    let mut digits = [0u8; 20];
-    let k = io::decimal(column, &mut digits);
-    put(line, m, &digits[..k])
+    put_digits(line, m, column)
 }
 
 // The same if the column is in a pattern.

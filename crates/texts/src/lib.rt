@@ -18,7 +18,7 @@ pub fn put(out: &mut [u8], n: usize, text: &[u8]) -> usize
 }
 
 // The same with the digits of a number.
-fn put_digits(out: &mut [u8], n: usize, number: u64) -> usize
+pub fn put_digits(out: &mut [u8], n: usize, number: u64) -> usize
     requires { ⌜ n + 20 ≤ length (now out) ⌝ }
     ensures { λ x. ⌜ Put (now (out .entry)) (now (out .exit)) n x (text number) ⌝ }
     ensures { λ x. ⌜ x ≤ n + 20 ⌝ }
