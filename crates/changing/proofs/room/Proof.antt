@@ -1,9 +1,9 @@
--- `commands::room` meets its contract.
+-- `changing::room` meets its contract.
 -- Assumes nothing.
 use borrow.Author.Needs.{needs}
 use Rattle.stripe.proofs.Frame.{checked-admitted}
-use Rattle.commands.proofs.room.Statement.{statement}
-use Rattle.commands.proofs.room.Tie as tie
+use Rattle.changing.proofs.room.Statement.{statement}
+use Rattle.changing.proofs.room.Tie as tie
 
 checked-requires : tie.Need-checked-requires
 checked-requires c κs = search needs

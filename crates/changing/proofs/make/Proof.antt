@@ -1,9 +1,9 @@
--- `commands::make` meets its contract.
+-- `changing::make` meets its contract.
 -- Assumes nothing.
 use Rattle.files.proofs.Laws.{taken-within}
 use borrow.Author.Needs.{needs}
-use Rattle.commands.proofs.make.Statement.{statement}
-use Rattle.commands.proofs.make.Tie as tie
+use Rattle.changing.proofs.make.Statement.{statement}
+use Rattle.changing.proofs.make.Tie as tie
 
 take-requires : tie.Need-take-requires
 take-requires c κs = search needs

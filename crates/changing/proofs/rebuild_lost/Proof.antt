@@ -1,10 +1,10 @@
--- `commands::refill` meets its contract.
+-- `changing::rebuild_lost` meets its contract.
 -- Assumes nothing.
 use native.Mathlib.Omega.{arith}
 use borrow.Author.Needs.{needs}
 use Rattle.files.proofs.Laws.{taken-within}
-use Rattle.commands.proofs.refill.Statement.{statement}
-use Rattle.commands.proofs.refill.Tie as tie
+use Rattle.changing.proofs.rebuild_lost.Statement.{statement}
+use Rattle.changing.proofs.rebuild_lost.Tie as tie
 
 take-requires : tie.Need-take-requires
 take-requires c κs = search needs
@@ -24,17 +24,17 @@ same-length c = search needs
 returns : tie.Need-returns
 returns c = search needs
 
-sub-refill : tie.Need-sub-refill
-sub-refill c = search needs
+sub-rebuild : tie.Need-sub-rebuild
+sub-rebuild c = search needs
 
-part-refill-start : tie.Need-part-refill-start
-part-refill-start c = search needs
+part-rebuild-start : tie.Need-part-rebuild-start
+part-rebuild-start c = search needs
 
-part-refill-end : tie.Need-part-refill-end
-part-refill-end c = search taken-within
+part-rebuild-end : tie.Need-part-rebuild-end
+part-rebuild-end c = search taken-within
 
-refill-requires : tie.Need-refill-requires
-refill-requires c κs = search needs
+rebuild-requires : tie.Need-rebuild-requires
+rebuild-requires c κs = search needs
 
 said-requires : tie.Need-said-requires
 said-requires c κs = search needs
@@ -43,10 +43,10 @@ same-length-2 : tie.Need-same-length-2
 same-length-2 c = search needs
 
 returns-2 : tie.Need-returns-2
-returns-2 c = omega (arith, part-refill-end (c .before .before .before .before .before))
+returns-2 c = omega (arith, part-rebuild-end (c .before .before .before .before .before))
 
-pub refill-spec : {M : Type 1} → statement M
-refill-spec =
+pub rebuild-lost-spec : {M : Type 1} → statement M
+rebuild-lost-spec =
     tie.close
     (tie.spec
     take-requires
@@ -55,10 +55,10 @@ refill-spec =
     nothing-requires
     same-length
     returns
-    sub-refill
-    part-refill-start
-    part-refill-end
-    refill-requires
+    sub-rebuild
+    part-rebuild-start
+    part-rebuild-end
+    rebuild-requires
     said-requires
     same-length-2
     returns-2)
