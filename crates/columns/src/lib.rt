@@ -13,8 +13,10 @@ ghost use Rattle.columns.specs.Export.{export-sound, exportOf, file-leng
 ghost use Rattle.columns.specs.Import.{absent, import-sound, importOf, filesLengthOf};
 ghost use Rattle.columns.specs.Inner.{Accepted-files};
 
-// The bytes of the files of all columns of the largest image.
-pub const LARGEST_FILES: usize = (18 + Params::MOST_COLUMNS * Params::LARGEST_STRIP)
+// The bytes of the files of all columns of the largest image: numbers and counts, strips, and the revisions of data columns.
+pub const LARGEST_FILES: usize = (column_file::REVISIONS_FROM
+    + 2
+    + Params::MOST_COLUMNS * Params::LARGEST_STRIP)
     * Params::LARGEST_PRIME
     + 4 * Params::MOST_COLUMNS;
 

@@ -1,15 +1,18 @@
 // The commands of the depot: files of images that are made, looked at and changed, and the column files of an image.
 // A changed image goes to a new file beside the old one; that is synced and looked at again before it takes the old one's name.
 use answers::Answer;
+use columns::Imported;
+use columns::Measured;
 use files::Taken;
-use parity::Checkup;
-use refusal::Outcome;
+use images::Changed;
 use stripe::Params;
 use stripe::Reading;
 use words::Command;
+use write::Written;
 ghost use mathlib.Core.Path.{_≡_};
 ghost use Prim.Native.Nat.{_≤_};
 ghost use lib.ListN.{length, replicate};
+ghost use Rattle.columns.specs.Export.{measured-value};
 
 // Room for the files of all columns, and for the section one of a file more: by that all that follows is refused as in the whole.
 const FILES_ROOM: usize = columns::LARGEST_FILES + column_file::CARRIED_AT;
@@ -31,15 +34,6 @@ fn blank_files() -> [u8; FILES_ROOM]
     [0u8; FILES_ROOM]
 }
 
-// check: which parities are wrong.
-fn check(image: &[u8]) -> Answer {
-    let checkup = parity::check(image);
-    match checkup {
-        Checkup::Wrong(w) => Answer::Word(w),
-        Checkup::Refused(e) => Answer::Refused(e),
-    }
-}
-
 // report: the lines of the report program.
 fn report(image: &[u8]) -> Answer {
     let reading = stripe::read(image);
@@ -50,24 +44,11 @@ fn report(image: &[u8]) -> Answer {
     Answer::Said
 }
 
-// show: the bytes of a strip, restored first if its column is lost.
-fn show(image: &[u8], lost: u64, column: usize, row: usize) -> Answer {
-    let mut scratch = [0u8; Params::LARGEST_STRIP];
-    let outcome = rebuild::restore(image, lost, column, row, &mut scratch);
-    if let Outcome::Refused(e) = outcome {
-        return Answer::Refused(e);
-    }
-    if !io::write_all(1, rebuild::show(image, lost, column, row, &scratch)) {
-        os::fail(b"standard output");
-    }
-    Answer::Said
-}
-
 // The commands that only look at an image.
 fn view_by(command: Command, image: &[u8]) -> Answer {
     match command {
-        Command::Check => check(image),
-        Command::Show(lost, column, row) => show(image, lost, column, row),
+        Command::Check => images::check(image),
+        Command::Show(lost, column, row) => images::show(image, lost, column, row),
         _ => report(image),
     }
 }
@@ -78,6 +59,144 @@ fn view(command: Command, path: &[u8], image: &mut [u8]) -> Answer {
         return Answer::Said;
     };
     view_by(command, &image[0..n])
+}
+
+// The answer of a write.
+fn accepted(written: Written) -> Answer {
+    match written {
+        Written::Accepted(revision, count) => Answer::Accepted(revision, count),
+        Written::Aged(age) => Answer::Aged(age),
+        Written::Refused(e) => Answer::Refused(e),
+    }
+}
+
+// write: a file's strip against a revision, while columns are lost or not. Of a file that is too long a byte too many is taken.
+fn write_strip(
+    column: usize,
+    row: usize,
+    base: u32,
+    lost: u64,
+    from: &[u8],
+    path: &[u8],
+    image: &mut [u8],
+) -> Changed
+    ensures { λ x. ⌜ x .length ≤ length (now (image .exit)) ⌝ }
+{
+    let mut strip = [0u8; Params::LARGEST_STRIP + 1];
+    let Taken::Bytes(m) = files::take(from, &mut strip) else {
+        return images::nothing();
+    };
+    let Taken::Bytes(n) = files::take(path, image) else {
+        return images::nothing();
+    };
+    let written = away::write(&mut image[0..n], lost, column, row, base, &strip[0..m]);
+    Changed {
+        answer: accepted(written),
+        length: n,
+    }
+}
+
+// How many bytes were measured; 0 where that was refused.
+fn measured_room(measured: Measured) -> usize
+    ensures { λ n. ⌜ n ≡ measured-value measured ⌝ }
+{
+    match measured {
+        Measured::Bytes(n) => n,
+        Measured::Refused(_) => 0,
+    }
+}
+
+// export: the file of one column of an image.
+fn export(column: usize, from: &[u8], file: &mut [u8], image: &mut [u8]) -> Changed
+    requires { ⌜ 1874176 ≤ length (now file) ⌝ }
+    ensures { λ x. ⌜ x .length ≤ length (now (file .exit)) ⌝ }
+{
+    let Taken::Bytes(m) = files::take(from, image) else {
+        return images::nothing();
+    };
+    let n = measured_room(columns::file_length(&image[0..m], column));
+    let outcome = columns::export(&image[0..m], column, &mut file[0..n]);
+    Changed {
+        answer: images::said(outcome),
+        length: n,
+    }
+}
+
+// The answer of an import.
+fn absent(imported: Imported) -> Answer {
+    match imported {
+        Imported::Absent(w) => Answer::Absent(w),
+        Imported::Refused(e) => Answer::Refused(e),
+    }
+}
+
+// import: the image of column files.
+fn import(line: &[u8], mark: u8, image: &mut [u8], other: &mut [u8]) -> Changed
+    requires { ⌜ 1874176 ≤ length (now image) ⌝ }
+    ensures { λ x. ⌜ x .length ≤ length (now (image .exit)) ⌝ }
+{
+    let Taken::Bytes(m) = files::take_each(line, mark, 2, other) else {
+        return images::nothing();
+    };
+    let n = measured_room(columns::files_length(&other[0..m]));
+    let imported = columns::import(&other[0..m], &mut image[0..n]);
+    Changed {
+        answer: absent(imported),
+        length: n,
+    }
+}
+
+// Whether a command makes a new file; one that is there already stays.
+fn is_making(command: Command) -> bool {
+    match command {
+        Command::Make(_, _, _, _) => true,
+        Command::Export(_) => true,
+        Command::Import => true,
+        Command::Check => false,
+        Command::Refill => false,
+        Command::Write(_, _, _, _) => false,
+        Command::Rebuild(_) => false,
+        Command::Show(_, _, _) => false,
+        Command::Report => false,
+        Command::Help => false,
+        Command::Usage => false,
+    }
+}
+
+// Which word of a command names the file that it reads beside the one that it makes or changes: IMAGE, or else DATA or STRIP.
+fn from_at(command: Command) -> usize {
+    match command {
+        Command::Export(_) => 1,
+        _ => 5,
+    }
+}
+
+// The commands that make or change a file, in its buffer.
+fn change_by(
+    command: Command,
+    line: &[u8],
+    mark: u8,
+    path: &[u8],
+    image: &mut [u8],
+    other: &mut [u8],
+) -> Changed
+    requires { ⌜ 1874176 ≤ length (now image) ⌝ }
+    ensures { λ x. ⌜ x .length ≤ length (now (image .exit)) ⌝ }
+{
+    if is_making(command) && !files::is_free(path) {
+        return images::nothing();
+    }
+    let from = words::word(line, mark, from_at(command));
+    match command {
+        Command::Make(p, k, r, b) => images::make(p, k, r, b, from, image, other),
+        Command::Write(column, row, base, lost) => {
+            write_strip(column, row, base, lost, from, path, image)
+        }
+        Command::Rebuild(lost) => images::rebuild_lost(lost, path, image),
+        Command::Export(column) => export(column, from, image, other),
+        Command::Import => import(line, mark, image, other),
+        _ => images::refill(path, image),
+    }
 }
 
 // Whether an answer says that there is something new to keep.
@@ -123,7 +242,7 @@ fn change_beside(
         os::fail(new);
         return Answer::Said;
     }
-    let changed = changing::change_by(command, line, mark, path, image, other);
+    let changed = change_by(command, line, mark, path, image, other);
     let answer = changed.answer;
     let n = changed.length;
     let kept = keep(answer, fd, path, new, &image[0..n]);

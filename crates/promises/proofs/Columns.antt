@@ -41,9 +41,9 @@ use Rattle.columns.specs.declared.Imported.the-variants.{Absent}
 use Rattle.columns.specs.declared.Measured.the-variants.{Bytes, Refused as Unmeasured}
 use Rattle.columns.specs.Export.{export-sound, export-read, exportOf, file-length-sound, file-length-read, fileLengthOf, measured-value}
 use Rattle.columns.specs.Import.{import-sound, import-met, importOf, files-length-met, filesLengthOf, imported-number, imported-value}
-use Rattle.round_trip.proofs.Round.{export-done, import-exported, import-all, only-image, length-only-revisions, length-only-columns, length-only-parities}
+use Rattle.columns.proofs.Round.{export-done, import-exported, import-all, only-image, length-only-revisions, length-only-columns, length-only-parities}
 use Rattle.filling.proofs.Spots.{Kind, heads, revisions, third, columns, fourth, parities, kind, row-is}
-use Rattle.round_trip.specs.Only.{among, only-revisions, only-columns, only-parities, only, all-strips, others}
+use Rattle.columns.specs.Only.{among, only-revisions, only-columns, only-parities, only, all-strips, others}
 use Rattle.promises.proofs.Accepted.{reads-image, image-reads}
 use Rattle.promises.proofs.Demand2.{comes, demand-2}
 use Rattle.promises.specs.Columns.{Fills, Column-files}

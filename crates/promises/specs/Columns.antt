@@ -18,7 +18,7 @@ use Rattle.columns.specs.declared.Imported.{Imported}
 use Rattle.columns.specs.declared.Measured.the-variants.{Bytes}
 use Rattle.columns.specs.Export.{exportOf, fileLengthOf}
 use Rattle.columns.specs.Import.{importOf, filesLengthOf, imported-number, imported-value}
-use Rattle.round_trip.specs.Only.{Listed, All-listed, exported, only, all-strips, others}
+use Rattle.columns.specs.Only.{Listed, All-listed, exported, only, all-strips, others}
 use Rattle.promises.specs.Demand2.{Comes-to}
 
 -- import was accepted, told this pattern of absent columns, and filled the slice so

@@ -1,9 +1,9 @@
--- `changing::room` meets its contract.
+-- `images::room` meets its contract.
 -- Assumes nothing.
 use borrow.Author.Needs.{needs}
 use Rattle.stripe.proofs.Frame.{checked-admitted}
-use Rattle.changing.proofs.room.Statement.{statement}
-use Rattle.changing.proofs.room.Tie as tie
+use Rattle.images.proofs.room.Statement.{statement}
+use Rattle.images.proofs.room.Tie as tie
 
 checked-requires : tie.Need-checked-requires
 checked-requires c κs = search needs

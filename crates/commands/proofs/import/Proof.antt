@@ -1,9 +1,9 @@
--- `changing::import` meets its contract.
+-- `commands::import` meets its contract.
 -- Assumes nothing.
 use Rattle.files.proofs.Laws.{taken-within}
 use borrow.Author.Needs.{needs}
-use Rattle.changing.proofs.import.Statement.{statement}
-use Rattle.changing.proofs.import.Tie as tie
+use Rattle.commands.proofs.import.Statement.{statement}
+use Rattle.commands.proofs.import.Tie as tie
 
 take-each-requires : tie.Need-take-each-requires
 take-each-requires c κs = search needs

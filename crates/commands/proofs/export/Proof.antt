@@ -1,9 +1,9 @@
--- `changing::export` meets its contract.
+-- `commands::export` meets its contract.
 -- Assumes nothing.
 use Rattle.files.proofs.Laws.{taken-within}
 use borrow.Author.Needs.{needs}
-use Rattle.changing.proofs.export.Statement.{statement}
-use Rattle.changing.proofs.export.Tie as tie
+use Rattle.commands.proofs.export.Statement.{statement}
+use Rattle.commands.proofs.export.Tie as tie
 
 take-requires : tie.Need-take-requires
 take-requires c κs = search needs

@@ -14,11 +14,11 @@ use Rattle.stripe.specs.Reading.{readOf, withParams, sectionsOf}
 use Rattle.stripe.specs.Sections.{image-of}
 use Rattle.column_file.specs.File.{column-at, flag, carried, file-of, fileOf}
 use Rattle.file_by_file.specs.Files.{alike, counted, body-step, column-step, checked-step, stepOf, onward, walk}
 use Rattle.columns.specs.Export.{export-sound, export-read, exportOf}
 use Rattle.filling.specs.Filled.{blank, put-column, put-file, fill}
 use Rattle.columns.specs.Import.{absent, import-sound, import-met, importOf}
 use Rattle.columns.specs.declared.Imported.the-variants.{Absent, Refused}
-use Rattle.round_trip.specs.Examples.{data-file, parity-file, both-image, refused-examples}
+use Rattle.columns.specs.Examples.{data-file, parity-file, both-image, refused-examples}
 
 pub first-exported : exportOf example-image 1 (tab 26 (λ o. 9)) ≡ record { answer = Done; image = data-file }
 unfolding exportOf export-read export-sound fileOf file-of flag carried column-at readOf withParams sectionsOf checkedOf admitted-prime admitted-shape admitted-strip odd-prime below part tab

@@ -13,14 +13,14 @@ use Rattle.stripe.specs.declared.Params.{Params}
 use Rattle.column_file.specs.File.{number-at, file-length, revisions-of, strips-of, fileOf}
 use Rattle.file_by_file.specs.Files.{stepOf, onward, walk}
 use Rattle.filling.specs.Filled.{put-column, put-file, fill}
-use Rattle.round_trip.specs.Only.{Listed, more, exported}
+use Rattle.columns.specs.Only.{Listed, more, exported}
 use Rattle.file_by_file.specs.declared.Met.{Met}
 use Rattle.file_by_file.specs.declared.Met.the-variants.{Columns}
 use Rattle.file_by_file.specs.declared.Step.{Step}
 use Rattle.file_by_file.specs.declared.Step.the-variants.{File}
 use Rattle.column_file.proofs.Columns.{length-file}
-use Rattle.round_trip.proofs.Files.{First, stepped, length-files, is-n, file-put}
-use Rattle.round_trip.proofs.Marks.{Fresh, marked, fresh-head, fresh-tail}
+use Rattle.columns.proofs.Files.{First, stepped, length-files, is-n, file-put}
+use Rattle.columns.proofs.Marks.{Fresh, marked, fresh-head, fresh-tail}
 
 -- the columns of s that are listed, put one after the other into t
 unfoldable pub placed : List ℕ → Params → List ℕ → List ℕ → List ℕ

@@ -1,10 +1,10 @@
--- `changing::refill` meets its contract.
+-- `images::refill` meets its contract.
 -- Assumes nothing.
 use native.Mathlib.Omega.{arith}
 use borrow.Author.Needs.{needs}
 use Rattle.files.proofs.Laws.{taken-within}
-use Rattle.changing.proofs.refill.Statement.{statement}
-use Rattle.changing.proofs.refill.Tie as tie
+use Rattle.images.proofs.refill.Statement.{statement}
+use Rattle.images.proofs.refill.Tie as tie
 
 take-requires : tie.Need-take-requires
 take-requires c κs = search needs

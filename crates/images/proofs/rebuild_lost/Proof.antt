@@ -1,10 +1,10 @@
--- `changing::rebuild_lost` meets its contract.
+-- `images::rebuild_lost` meets its contract.
 -- Assumes nothing.
 use native.Mathlib.Omega.{arith}
 use borrow.Author.Needs.{needs}
 use Rattle.files.proofs.Laws.{taken-within}
-use Rattle.changing.proofs.rebuild_lost.Statement.{statement}
-use Rattle.changing.proofs.rebuild_lost.Tie as tie
+use Rattle.images.proofs.rebuild_lost.Statement.{statement}
+use Rattle.images.proofs.rebuild_lost.Tie as tie
 
 take-requires : tie.Need-take-requires
 take-requires c κs = search needs

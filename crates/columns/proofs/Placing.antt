@@ -13,11 +13,11 @@ use Rattle.stripe.specs.Reading.{Image}
 use Rattle.stripe.specs.declared.Params.{Params}
 use Rattle.column_file.specs.File.{column-at, carried, revisions-of, strips-of}
 use Rattle.filling.specs.Filled.{put-column}
-use Rattle.round_trip.specs.Only.{among, Listed, more}
+use Rattle.columns.specs.Only.{among, Listed, more}
 use Rattle.column_file.proofs.Columns.{length-revisions, length-strips}
 use Rattle.filling.proofs.Bytes.{Of, Byte, inner, outer, byte, length-put-column}
-use Rattle.round_trip.proofs.Marks.{among-cases, among-head, among-tail}
-use Rattle.round_trip.proofs.Walked.{placed}
+use Rattle.columns.proofs.Marks.{among-cases, among-head, among-tail}
+use Rattle.columns.proofs.Walked.{placed}
 
 -- t is now u: bytes of s in the places that In names
 pub record Copied (s t u : List ℕ) (In : ℕ → Type 0) : Type 0 where

@@ -23,20 +23,20 @@ use Rattle.stripe.specs.declared.Params.{Params}
 use Rattle.stripe.specs.Sections.{image-of}
 use Rattle.column_file.specs.File.{file-length, fileOf}
 use Rattle.file_by_file.specs.Files.{walk}
 use Rattle.columns.specs.Export.{export-sound, export-read, exportOf}
 use Rattle.filling.specs.Filled.{blank, fill}
 use Rattle.columns.specs.Import.{import-sound, import-met, importOf}
-use Rattle.round_trip.specs.Only.{among, Listed, more, All-listed, exported, only-revisions, only-columns, only-parities, only, others}
+use Rattle.columns.specs.Only.{among, Listed, more, All-listed, exported, only-revisions, only-columns, only-parities, only, others}
 use Rattle.columns.specs.declared.Imported.the-variants.{Absent}
 use Rattle.file_by_file.specs.declared.Met.the-variants.{Columns}
-use Rattle.round_trip.proofs.Files.{First, first-file, first-is}
+use Rattle.columns.proofs.Files.{First, first-file, first-is}
 use Rattle.column_file.proofs.Columns.{length-file}
-use Rattle.round_trip.proofs.Marks.{marked, absent-others}
-use Rattle.round_trip.proofs.Placing.{length-placed, placed-inner, placed-outer}
-use Rattle.round_trip.proofs.Shape.{image-is}
+use Rattle.columns.proofs.Marks.{marked, absent-others}
+use Rattle.columns.proofs.Placing.{length-placed, placed-inner, placed-outer}
+use Rattle.columns.proofs.Shape.{image-is}
 use Rattle.filling.proofs.Bytes.{Of}
 use Rattle.filling.proofs.Spots.{Kind, heads, revisions, third, columns, fourth, parities, kind, head-of, third-of, fourth-of, revision-of, revision-only, data-of, data-only, parity-of, parity-only, row-below}
-use Rattle.round_trip.proofs.Walked.{placed, walked, filled}
+use Rattle.columns.proofs.Walked.{placed, walked, filled}
 use Rattle.laws.proofs.Bit.{bit-zero}
 
 -- ---- the image: columns put into the blank one

@@ -1,10 +1,10 @@
--- `changing::write_strip` meets its contract.
+-- `commands::write_strip` meets its contract.
 -- Assumes nothing.
 use native.Mathlib.Omega.{arith}
 use borrow.Author.Needs.{needs}
 use Rattle.files.proofs.Laws.{taken-within}
-use Rattle.changing.proofs.write_strip.Statement.{statement}
-use Rattle.changing.proofs.write_strip.Tie as tie
+use Rattle.commands.proofs.write_strip.Statement.{statement}
+use Rattle.commands.proofs.write_strip.Tie as tie
 
 slice-aggregate-take : tie.Need-slice-aggregate-take
 slice-aggregate-take c = search needs

@@ -13,9 +13,9 @@ use Rattle.laws.specs.Bit.{bit}
 use Rattle.laws.specs.Choose.{choose}
 use Rattle.laws.specs.Xor.{_⊕_}
 use Rattle.stripe.specs.declared.Params.{Params}
 use Rattle.columns.specs.Import.{absent}
 use Rattle.filling.proofs.Marks.{mark-same, mark-other}
-use Rattle.round_trip.specs.Only.{among, Listed, more, others}
+use Rattle.columns.specs.Only.{among, Listed, more, others}
 
 -- ---- a list of columns
 

@@ -1,2 +1,0 @@
-pub mod Only
-pub mod Examples
