@@ -199,32 +199,6 @@ fn change_by(
     }
 }
 
-// Whether an answer says that there is something new to keep.
-fn is_change(answer: Answer) -> bool {
-    match answer {
-        Answer::Done => true,
-        Answer::Absent(_) => true,
-        Answer::Accepted(_, _) => true,
-        Answer::Word(_) => false,
-        Answer::Aged(_) => false,
-        Answer::Refused(_) => false,
-        Answer::Said => false,
-    }
-}
-
-// The answer, once the changed image is kept; the new file is removed where nothing came of it.
-fn keep(answer: Answer, fd: i32, path: &[u8], new: &[u8], image: &[u8]) -> Answer {
-    if !is_change(answer) {
-        os::unlink(new);
-        return answer;
-    }
-    if !files::keep(fd, path, new, image) {
-        os::unlink(new);
-        return Answer::Said;
-    }
-    answer
-}
-
 // Makes the new file, which keeps others from changing the image at the same time, then changes the image and keeps it.
 fn change_beside(
     command: Command,
@@ -245,7 +219,7 @@ fn change_beside(
     let changed = change_by(command, line, mark, path, image, other);
     let answer = changed.answer;
     let n = changed.length;
-    let kept = keep(answer, fd, path, new, &image[0..n]);
+    let kept = files::keep(answer, fd, path, new, &image[0..n]);
     libc::close(fd);
     kept
 }

@@ -1,4 +1,5 @@
 // The files of the depot: taken into a buffer, written, looked at again and put in the place of others; and the program's arguments.
+use answers::Answer;
 use stripe::Params;
 ghost use mathlib.Core.Path.{_≡_};
 ghost use Prim.Native.Nat.{_≤_};
@@ -167,9 +168,35 @@ fn replace(path: &[u8], new: &[u8]) -> bool {
     done
 }
 
-// The house rule: written once, synced, looked at again; then it is the image.
-pub fn keep(fd: i32, path: &[u8], new: &[u8], bytes: &[u8]) -> bool {
+// The house rule: written once, synced, looked at again; then it has the file's name.
+fn settle(fd: i32, path: &[u8], new: &[u8], bytes: &[u8]) -> bool {
     store(fd, new, bytes) && look(new, bytes) && replace(path, new)
+}
+
+// Whether an answer says that there is something new to keep.
+fn is_change(answer: Answer) -> bool {
+    match answer {
+        Answer::Done => true,
+        Answer::Absent(_) => true,
+        Answer::Accepted(_, _) => true,
+        Answer::Word(_) => false,
+        Answer::Aged(_) => false,
+        Answer::Refused(_) => false,
+        Answer::Said => false,
+    }
+}
+
+// The answer, once what is new is kept; the new file is removed where nothing came of it.
+pub fn keep(answer: Answer, fd: i32, path: &[u8], new: &[u8], bytes: &[u8]) -> Answer {
+    if !is_change(answer) {
+        os::unlink(new);
+        return answer;
+    }
+    if !settle(fd, path, new, bytes) {
+        os::unlink(new);
+        return Answer::Said;
+    }
+    answer
 }
 
 // Puts the name of the new file beside an image into `name`; its length, or 0 where it is too long.
