@@ -1,7 +1,7 @@
 -- A column's parts copied into a slice of its file's length, and the counts put around them.
 -- Assumes nothing.
 use Prim.Native.Nat.{ℕ, _+_, _-_, _*_, _<_, _≤_}
-use mathlib.Core.List.{List, [], _++_, append-assoc, append-nil}
+use mathlib.Core.List.{List, [], _∷_, _++_, append-assoc, append-nil}
 use mathlib.Core.Logic.{inl}
 use mathlib.Core.Path.{_≡_, refl, sym, ap, ap₂, _∙_}
 use native.Mathlib.Omega.{arith}
@@ -28,10 +28,16 @@ part-copied s t u to from n e = let z : from + n - from ≡ n = omega arith in e
 pub part-fits : (s t : List ℕ) (to from n : ℕ) → Strip t s to from n → to + length (take (from + n - from) (drop from s)) ≤ length t
 part-fits s t to from n S = simp (length-take, length-drop) (omega (arith, S .there))
 
--- nothing put anywhere
-pub put-none : (s t : List ℕ) (at from : ℕ) → put t at (part s from 0) ≡ t
-unfolding put part
-put-none s t at from = let z : at + 0 ≡ at = omega arith in ap (λ (x : ℕ). take at t ++ drop x t) z ∙ take-append-drop at t
+-- a list without bytes put anywhere
+pub put-empty : (t v : List ℕ) (at : ℕ) → length v ≡ 0 → put t at v ≡ t
+unfolding put
+put-empty t [] at e = let z : at + 0 ≡ at = omega arith in ap (λ (x : ℕ). take at t ++ drop x t) z ∙ take-append-drop at t
+put-empty t (x ∷ v) at e = absurd (omega arith)
+
+-- and so the revisions of a parity column
+pub no-revisions : (s t : List ℕ) (q : Params) (n to from : ℕ) → q .k ≤ n → t ≡ put t to (part s from (4 * carried q n))
+unfolding part
+no-revisions s t q n to from h = sym (put-empty t (part s from (4 * carried q n)) to (rw (carried-parity q n h) refl))
 
 -- ---- the counts
 
@@ -99,7 +105,7 @@ module _ (s t u : List ℕ) (q : Params) (n from : ℕ) where
   strips-copied to m h e f g = g ∙ ap₂ (λ (x y : ℕ). put t to (part s x y)) e f ∙ ap (λ (x : ℕ). put t x (strips-of s q n)) h
 
 pub none-copied : (s t : List ℕ) (q : Params) (n : ℕ) → q .k ≤ n → t ≡ put t revisions-from (revisions-of s q n)
-none-copied s t q n h = sym (ap (λ (x : ℕ). put t revisions-from (part s (revision-at n) (4 * x))) (carried-parity q n h) ∙ put-none s t revisions-from (revision-at n))
+none-copied s t q n h = no-revisions s t q n revisions-from (revision-at n) h
 
 -- ---- `fill`
 

@@ -15,7 +15,7 @@ use Rattle.column_file.specs.File.{column-at, carried, revisions-of, strips-of}
 use Rattle.filling.specs.Filled.{put-column}
 use Rattle.columns.specs.Only.{among, Listed, more}
 use Rattle.column_file.proofs.Columns.{length-revisions, length-strips}
-use Rattle.filling.proofs.Bytes.{Of, Byte, inner, outer, byte, length-put-column}
+use Rattle.filling.proofs.Bytes.{Of, Byte, inner, outer, byte, put-there, put-stays, length-put-column}
 use Rattle.columns.proofs.Marks.{among-cases, among-head, among-tail}
 use Rattle.columns.proofs.Walked.{placed}
 
@@ -34,9 +34,9 @@ module _ (s : List ℕ) (q : Params) (i : Image s q) where
   pub column-copied : (n : ℕ) (t : List ℕ) → n < q .k + q .r → length t ≡ length s → Copied s t (put-column q n (revisions-of s q n) (strips-of s q n) t) (Of q n)
   column-copied n t h l = record {
     len = length-put-column q n _ _ h (length-revisions s q i n h) (length-strips s q i n h) t lt ∙ sym lt;
-    inside = λ o f. in-it o f (own o);
+    inside = λ o f. put-there q n _ _ o (getD s o 0) t lt (own o) f;
     outside = λ o f. out-of-it o f (own o);
-    stay = λ o e. kept o e (own o);
+    stay = λ o e. put-stays q n _ _ o (getD s o 0) t lt (own o) e;
   }
     where
       lt : length t ≡ image-length q
@@ -47,18 +47,9 @@ module _ (s : List ℕ) (q : Params) (i : Image s q) where
           byte q n (revisions-of s q n) (strips-of s q n) h (length-revisions s q i n h) (length-strips s q i n h) (λ o x. x ≡ getD s o 0)
           (λ j b. getD-part s (revision-at n) (4 * carried q n) j b) (λ j b. getD-part s (column-at q n) (column-length q) j b)
 
-      in-it : (o : ℕ) → Of q n o → Byte q n (revisions-of s q n) (strips-of s q n) (λ x. x ≡ getD s o 0) o → getD (put-column q n (revisions-of s q n) (strips-of s q n) t) o 0 ≡ getD s o 0
-      in-it o f (inner x e w g) = g t lt ∙ e
-      in-it o f (outer w g) = absurd (w f)
-
       out-of-it : (o : ℕ) → (Of q n o → ⊥) → Byte q n (revisions-of s q n) (strips-of s q n) (λ x. x ≡ getD s o 0) o → getD (put-column q n (revisions-of s q n) (strips-of s q n) t) o 0 ≡ getD t o 0
       out-of-it o f (inner x e w g) = absurd (f w)
       out-of-it o f (outer w g) = g t lt
-
-      kept : (o : ℕ) → getD t o 0 ≡ getD s o 0 → Byte q n (revisions-of s q n) (strips-of s q n) (λ x. x ≡ getD s o 0) o
-          → getD (put-column q n (revisions-of s q n) (strips-of s q n) t) o 0 ≡ getD s o 0
-      kept o z (inner x e w g) = g t lt ∙ e
-      kept o z (outer w g) = g t lt ∙ z
 
   pub length-placed : (ns t : List ℕ) → Listed q ns → length t ≡ length s → length (placed s q ns t) ≡ length s
   unfolding placed

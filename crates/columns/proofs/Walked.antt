@@ -2,7 +2,7 @@
 -- Assumes nothing.
 use Prim.Native.Nat.{ℕ, zero, suc, _+_, _^_, _<_, _≤_}
 use mathlib.Core.List.{List, [], _∷_, _++_, append-assoc, append-nil}
-use mathlib.Core.Path.{_≡_, refl, sym, ap, _∙_}
+use mathlib.Core.Path.{_≡_, sym, ap, _∙_}
 use native.Mathlib.Omega.{arith}
 use lib.ListN.{length, length-append}
 use borrow.Author.Tests.{lt-ltb, le-ltb}
@@ -19,6 +19,7 @@ use Rattle.file_by_file.specs.declared.Met.the-variants.{Columns}
 use Rattle.file_by_file.specs.declared.Step.{Step}
 use Rattle.file_by_file.specs.declared.Step.the-variants.{File}
 use Rattle.column_file.proofs.Columns.{length-file}
+use Rattle.filling.proofs.Turns.{fill-none}
 use Rattle.columns.proofs.Files.{First, stepped, length-files, is-n, file-put}
 use Rattle.columns.proofs.Marks.{Fresh, marked, fresh-head, fresh-tail}
 
@@ -79,16 +80,11 @@ module _ (s : List ℕ) (q : Params) (i : Image s q) (files : List ℕ) where
   unfolding fill
   fill-step left at n t h e = simp (lt-ltb at (length files) h) (ap (λ (x : ℕ). fill left files q (at + file-length q x) (put-file files at q x t)) e)
 
-  fill-end : (left at : ℕ) (t : List ℕ) → length files ≤ at → fill left files q at t ≡ t
-  unfolding fill
-  fill-end zero at t h = refl
-  fill-end (suc left) at t h = simp (le-ltb at (length files) h)
-
   -- pass two
   pub filled : (ns pre t : List ℕ) (at left : ℕ) → Listed q ns → files ≡ pre ++ exported s q ns → length pre ≡ at → length ns ≤ left
       → fill left files q at t ≡ placed s q ns t
   unfolding placed exported
-  filled [] pre t at left L e l b = fill-end left at t (omega (arith, ap length e ∙ ap length (append-nil pre)))
+  filled [] pre t at left L e l b = fill-none left files q at t (omega (arith, ap length e ∙ ap length (append-nil pre)))
   filled (n ∷ ns) pre t at zero L e l b = absurd (omega arith)
   filled (n ∷ ns) pre t at (suc left) (more h a L) e l b =
       let g = ends n ns pre at e l h in

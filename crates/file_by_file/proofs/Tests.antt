@@ -37,46 +37,34 @@ is-not x y z w e f n = ne-eqb y w (λ g. n (e ∙ g ∙ sym f))
 -- ---- the ways out of `is_alike`
 
 module _ (s : List ℕ) (at : ℕ) (q f : Params) (hq : q ≡ numbers-at s at) (hf : f ≡ numbers-at s 0) where
-  p-is : (u16 s (at + 2) ≡ q .p) × (u16 s 2 ≡ f .p)
-  p-is = (sym (ap (λ (x : Params). x .p) hq), sym (ap (λ (x : Params). x .p) hf))
+  same : (g : Params → ℕ) → g q ≡ g f → eqb (g (numbers-at s at)) (g (numbers-at s 0)) ≡ true
+  same g e = is (g q) _ (g f) _ (ap g hq) (ap g hf) e
 
-  k-is : (u16 s (at + 4) ≡ q .k) × (u16 s 4 ≡ f .k)
-  k-is = (sym (ap (λ (x : Params). x .k) hq), sym (ap (λ (x : Params). x .k) hf))
-
-  r-is : (u16 s (at + 6) ≡ q .r) × (u16 s 6 ≡ f .r)
-  r-is = (sym (ap (λ (x : Params). x .r) hq), sym (ap (λ (x : Params). x .r) hf))
-
-  b-is : (u16 s (at + 8) ≡ q .b) × (u16 s 8 ≡ f .b)
-  b-is = (sym (ap (λ (x : Params). x .b) hq), sym (ap (λ (x : Params). x .b) hf))
-
-  same : (x y z w : ℕ) → (x ≡ z) × (y ≡ w) → z ≡ w → eqb x y ≡ true
-  same x y z w h e = eq-eqb x y (h .0 ∙ e ∙ sym (h .1))
-
-  unlike : (x y z w : ℕ) → (x ≡ z) × (y ≡ w) → (z ≡ w → ⊥) → eqb x y ≡ false
-  unlike x y z w h n = ne-eqb x y (λ e. n (sym (h .0) ∙ e ∙ h .1))
+  unlike : (g : Params → ℕ) → (g q ≡ g f → ⊥) → eqb (g (numbers-at s at)) (g (numbers-at s 0)) ≡ false
+  unlike g n = is-not (g q) _ (g f) _ (ap g hq) (ap g hf) n
 
   pub unlike-p : (q .p ≡ f .p → ⊥) → false ≡ alike s at
   unfolding alike
-  unlike-p n = simp (unlike _ _ _ _ p-is n)
+  unlike-p n = simp (unlike (λ x. x .p) n)
 
   module _ (ep : q .p ≡ f .p) where
     pub unlike-k : (q .k ≡ f .k → ⊥) → false ≡ alike s at
     unfolding alike
-    unlike-k n = simp (same _ _ _ _ p-is ep, unlike _ _ _ _ k-is n)
+    unlike-k n = simp (same (λ x. x .p) ep, unlike (λ x. x .k) n)
 
     module _ (ek : q .k ≡ f .k) where
       pub unlike-r : (q .r ≡ f .r → ⊥) → false ≡ alike s at
       unfolding alike
-      unlike-r n = simp (same _ _ _ _ p-is ep, same _ _ _ _ k-is ek, unlike _ _ _ _ r-is n)
+      unlike-r n = simp (same (λ x. x .p) ep, same (λ x. x .k) ek, unlike (λ x. x .r) n)
 
       module _ (er : q .r ≡ f .r) where
         pub unlike-b : (q .b ≡ f .b → ⊥) → false ≡ alike s at
         unfolding alike
-        unlike-b n = simp (same _ _ _ _ p-is ep, same _ _ _ _ k-is ek, same _ _ _ _ r-is er, unlike _ _ _ _ b-is n)
+        unlike-b n = simp (same (λ x. x .p) ep, same (λ x. x .k) ek, same (λ x. x .r) er, unlike (λ x. x .b) n)
 
         pub all-alike : q .b ≡ f .b → true ≡ alike s at
         unfolding alike
-        all-alike eb = simp (same _ _ _ _ p-is ep, same _ _ _ _ k-is ek, same _ _ _ _ r-is er, same _ _ _ _ b-is eb)
+        all-alike eb = simp (same (λ x. x .p) ep, same (λ x. x .k) ek, same (λ x. x .r) er, same (λ x. x .b) eb)
 
 -- ---- the ways out of `is_counted`
 

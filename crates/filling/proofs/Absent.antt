@@ -31,7 +31,7 @@ use Rattle.file_by_file.specs.Inner.{Whole, Files, end, more}
 use Rattle.file_by_file.specs.declared.Met.the-variants.{Columns}
 use Rattle.file_by_file.specs.declared.Step.{Step}
 use Rattle.file_by_file.specs.declared.Step.the-variants.{File, Refused as Bad}
-use Rattle.filling.proofs.Bytes.{Of, Byte, inner, outer, byte, length-put-column}
+use Rattle.filling.proofs.Bytes.{Of, Byte, inner, outer, byte, put-there, put-stays, length-put-column}
 use Rattle.filling.proofs.Marks.{mark-other}
 use Rattle.filling.proofs.Spots.{Kind, heads, revisions, third, columns, fourth, parities, kind, revision-of, data-of, parity-of, row-below}
 use Rattle.filling.proofs.Turns.{fill-none, fill-turn, walk-whole}
@@ -59,22 +59,10 @@ module _ (q : Params) (met : ℕ) where
   length-cleared zero t h l = l
   length-cleared (suc n) t h l = length-turn n (eqb (bit met n) 0) (cleared n q met t) (omega arith) (length-cleared n t (omega arith) l)
 
-  -- a byte of the column is 0 then, and one that is 0 stays so
-  zero-there : (n o : ℕ) (u : List ℕ) → n < q .k + q .r → length u ≡ image-length q → Of q n o → getD (put-column q n (zeros (4 * carried q n)) (zeros C) u) o 0 ≡ 0
-  zero-there n o u h l f = go (clear-byte n h o)
-    where
-      go : Byte q n (zeros (4 * carried q n)) (zeros C) (λ x. x ≡ 0) o → getD (put-column q n (zeros (4 * carried q n)) (zeros C) u) o 0 ≡ 0
-      go (inner x e w g) = g u l ∙ e
-      go (outer w g) = absurd (w f)
-
   zero-stays : (n o : ℕ) (b : Bool) (u : List ℕ) → n < q .k + q .r → length u ≡ image-length q → getD u o 0 ≡ 0
       → getD (choose b (put-column q n (zeros (4 * carried q n)) (zeros C) u) u) o 0 ≡ 0
   zero-stays n o false u h l z = z
-  zero-stays n o true u h l z = go (clear-byte n h o)
-    where
-      go : Byte q n (zeros (4 * carried q n)) (zeros C) (λ x. x ≡ 0) o → getD (put-column q n (zeros (4 * carried q n)) (zeros C) u) o 0 ≡ 0
-      go (inner x e w g) = g u l ∙ e
-      go (outer w g) = g u l ∙ z
+  zero-stays n o true u h l z = put-stays q n _ _ o 0 u l (clear-byte n h o) z
 
   pub cleared-zero : (m : ℕ) (t : List ℕ) → m ≤ q .k + q .r → length t ≡ image-length q → (n o : ℕ) → n < m → bit met n ≡ 0 → Of q n o → getD (cleared m q met t) o 0 ≡ 0
   unfolding cleared
@@ -88,7 +76,7 @@ module _ (q : Params) (met : ℕ) where
           → getD (choose (eqb (bit met m) 0) (put-column q m (zeros (4 * carried q m)) (zeros C) (cleared m q met t)) (cleared m q met t)) o 0 ≡ 0
       go (yes d) ih =
           let y : bit met m ≡ 0 = ap (bit met) (sym d) ∙ e in
-          rw (eq-eqb (bit met m) 0 y) (zero-there m o (cleared m q met t) (omega arith) lu (subst (λ (x : ℕ). Of q x o) d f))
+          rw (eq-eqb (bit met m) 0 y) (put-there q m _ _ o 0 (cleared m q met t) lu (clear-byte m (omega arith) o) (subst (λ (x : ℕ). Of q x o) d f))
       go (no d) ih = zero-stays m o (eqb (bit met m) 0) (cleared m q met t) (omega arith) lu (ih (omega (arith, d)))
 
 -- ---- a file from a place on has the column of byte o

@@ -1,12 +1,12 @@
 -- The bytes of an image in which one column was put: which they are, and that the others stay.
 -- Assumes nothing.
 use Prim.Native.Nat.{ℕ, _+_, _*_, _<_, _≤_}
-use mathlib.Core.List.{List, [], _∷_, _++_}
+use mathlib.Core.List.{List}
 use mathlib.Core.Logic.{_⊎_, inl, inr}
 use mathlib.Core.Path.{_≡_, ap, _∙_}
 use native.Mathlib.Decide.{decLt}
 use native.Mathlib.Omega.{arith}
-use lib.ListN.{length, getD, take, drop, take-append-drop}
+use lib.ListN.{length, getD}
 use Rattle.laws.proofs.Part.{length-put, getD-put-before, getD-put-in, getD-put-after}
 use Rattle.laws.proofs.Place.{Place, place, before, inside, after}
 use Rattle.laws.specs.Part.{put}
@@ -14,6 +14,7 @@ use Rattle.stripe.proofs.Places.{revision-in}
 use Rattle.stripe.specs.Layout.{column-length, revision-at, image-length}
 use Rattle.stripe.specs.declared.Params.{Params}
 use Rattle.column_file.proofs.Columns.{carried-data, carried-parity, column-in}
+use Rattle.column_file.proofs.Writing.{put-empty}
 use Rattle.column_file.specs.File.{column-at, carried}
 use Rattle.filling.specs.Filled.{put-column}
 
@@ -30,11 +31,15 @@ pub data Byte (q : Params) (n : ℕ) (r v : List ℕ) (Is : ℕ → Type 0) (o :
   inner : (x : ℕ) → Is x → Of q n o → ((t : List ℕ) → length t ≡ image-length q → getD (put-column q n r v t) o 0 ≡ x) → Byte q n r v Is o
   outer : (Of q n o → ⊥) → ((t : List ℕ) → length t ≡ image-length q → getD (put-column q n r v t) o 0 ≡ getD t o 0) → Byte q n r v Is o
 
--- a list without bytes put anywhere
-pub put-empty : (t v : List ℕ) (at : ℕ) → length v ≡ 0 → put t at v ≡ t
-unfolding put
-put-empty t [] at e = let z : at + 0 ≡ at = omega arith in ap (λ (x : ℕ). take at t ++ drop x t) z ∙ take-append-drop at t
-put-empty t (x ∷ v) at e = absurd (omega arith)
+-- where the column's bytes are all as y says: one of the column is y then, and one that was y stays so
+module _ (q : Params) (n : ℕ) (r v : List ℕ) (o y : ℕ) (t : List ℕ) (l : length t ≡ image-length q) where
+  pub put-there : Byte q n r v (λ x. x ≡ y) o → Of q n o → getD (put-column q n r v t) o 0 ≡ y
+  put-there (inner x e w g) f = g t l ∙ e
+  put-there (outer w g) f = absurd (w f)
+
+  pub put-stays : Byte q n r v (λ x. x ≡ y) o → getD t o 0 ≡ y → getD (put-column q n r v t) o 0 ≡ y
+  put-stays (inner x e w g) z = g t l ∙ e
+  put-stays (outer w g) z = g t l ∙ z
 
 -- revisions r and strips v in the place of column n's
 module _ (q : Params) (n : ℕ) (r v : List ℕ) (h : n < q .k + q .r) (lr : length r ≡ 4 * carried q n) (lv : length v ≡ column-length q) where

@@ -12,13 +12,12 @@ use Rattle.stripe.proofs.Places.{revision-in}
 use Rattle.stripe.specs.Layout.{column-length, revision-at}
 use Rattle.stripe.specs.declared.Params.{Params}
 use Rattle.column_file.proofs.Columns.{carried-data, carried-parity, column-in}
-use Rattle.column_file.proofs.Writing.{put-none}
+use Rattle.column_file.proofs.Writing.{put-empty, no-revisions}
 use Rattle.column_file.specs.File.{column-at, carried, revisions-from, strips-from}
-use Rattle.column_file.specs.Inner.{Column-of}
 use Rattle.file_by_file.specs.Inner.{Whole}
 use Rattle.filling.specs.Filled.{zeros, put-column, put-file}
 use Rattle.filling.specs.Inner.{One-ready, Clearable}
-use Rattle.filling.proofs.Bytes.{put-empty, length-revised}
+use Rattle.filling.proofs.Bytes.{length-revised}
 
 -- ---- one column
 
@@ -37,7 +36,7 @@ module _ (s t : List ℕ) (q : Params) (n from : ℕ) where
   revisions-put u to h e f = f ∙ ap₂ (λ (x y : ℕ). put t x (part s from (4 * y))) e (sym (carried-data q n h))
 
   pub no-revisions-put : (to : ℕ) → q .k ≤ n → t ≡ put t to (part s from (4 * carried q n))
-  no-revisions-put to h = sym (ap (λ (x : ℕ). put t to (part s from (4 * x))) (carried-parity q n h) ∙ put-none s t to from)
+  no-revisions-put to h = no-revisions s t q n to from h
 
 pub strips-put : (s t u : List ℕ) (q : Params) (at n c to m : ℕ) → c ≡ strips-from q n → to ≡ column-at q n → m ≡ column-length q → u ≡ put t to (part s (at + c) m)
     → u ≡ put t (column-at q n) (part s (at + strips-from q n) (column-length q))
@@ -52,18 +51,12 @@ file-put s t u v q at n e f = e ∙ ap (λ (x : List ℕ). put x (column-at q n)
 -- ---- one column cleared
 
 module _ (t : List ℕ) (q : Params) (n : ℕ) (K : Clearable t q n) where
-  pub clearable-column : Column-of q n
-  clearable-column = record { admitted = K .admitted; below = K .below }
-
   pub revisions-cleared : (u : List ℕ) (to : ℕ) → n < q .k → to ≡ revision-at n → u ≡ put t to (zeros 4) → u ≡ put t (revision-at n) (zeros (4 * carried q n))
   revisions-cleared u to h e f = f ∙ ap₂ (λ (x y : ℕ). put t x (zeros (4 * y))) e (sym (carried-data q n h))
 
   pub no-revisions-cleared : q .k ≤ n → t ≡ put t (revision-at n) (zeros (4 * carried q n))
   no-revisions-cleared h =
       sym (put-empty t (zeros (4 * carried q n)) (revision-at n) (length-tab (4 * carried q n) (λ o. 0) ∙ omega (arith, carried-parity q n h)))
-
-  pub revision-room : (to : ℕ) → n < q .k → to ≡ revision-at n → to + 4 ≤ length t
-  revision-room to h e = omega (arith, revision-in q n h, K .room)
 
   pub column-cleared : (u v : List ℕ) (c m : ℕ) → v ≡ put u c (zeros m) → c ≡ column-at q n → m ≡ column-length q → u ≡ put t (revision-at n) (zeros (4 * carried q n))
       → v ≡ put-column q n (zeros (4 * carried q n)) (zeros (column-length q)) t
