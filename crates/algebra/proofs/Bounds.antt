@@ -4,10 +4,16 @@ use Prim.Native.Nat.{ℕ, _<_, _^_, zero, suc}
 use mathlib.Core.List.{List, [], _∷_}
 use lib.ListN.{getD, length}
 use lib.Pow.{pow-pos}
+use Rattle.laws.proofs.Bit.{pack-lt}
 use Rattle.laws.proofs.Xor.{⊕-lt}
 use Rattle.algebra.proofs.Words.{times-lt, over-lt}
 use Rattle.algebra.specs.Recovery.{rowOf, backOf, lessOf, solveOf, unitOf, entryOf}
-use Rattle.algebra.specs.Word.{timesOf, overOf}
+use Rattle.algebra.specs.Divide.{quot}
+use Rattle.algebra.specs.Word.{timesOf, overOf, inverseOf, pred}
+
+pub inverse-lt : (p a b : ℕ) → inverseOf p a b < 2 ^ p
+unfolding inverseOf
+inverse-lt p a b = pack-lt p (quot (pred p) a b)
 
 pub row-lt : (p x : ℕ) (ys l : List ℕ) → rowOf p x ys l < 2 ^ p
 unfolding rowOf

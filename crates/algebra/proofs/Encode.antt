@@ -14,13 +14,18 @@ use Rattle.algebra.proofs.Carry.{enc-map, solve-map}
 use Rattle.algebra.proofs.Cauchy.{solve-enc, enc-solve}
 use Rattle.algebra.proofs.Divide.{divides}
 use Rattle.algebra.proofs.Lane.{D-add, D-periodic, D-even, D-sym, D-tri, D-D, act-add, act-periodic, act-even, D-act, act-act}
-use Rattle.algebra.specs.Cauchy.{Laws, Same, Distinct, Cross, enc, solve}
+use Rattle.algebra.specs.Cauchy.{Laws, Same, Distinct, Cross, enc, row, solve}
 use Rattle.algebra.specs.Code.{plus, none, Good, encode, decode, All}
 use Rattle.algebra.specs.Divide.{quot, over}
 use Rattle.algebra.specs.Lane.{D, Apart}
 use Rattle.algebra.specs.Prime.{odd-prime}
 
 module _ (n : ℕ) where
+  -- parity by parity
+  pub encode-map : (xs ys : List ℕ) (ss : List (ℕ → ℕ)) → map (λ (x : ℕ). row plus none (D n) (over n) x ys ss) xs ≡ encode n xs ys ss
+  encode-map [] ys ss = refl
+  encode-map (x ∷ xs) ys ss = ap (λ (l : List (ℕ → ℕ)). row plus none (D n) (over n) x ys ss ∷ l) (encode-map xs ys ss)
+
   -- the even lanes
   abbrev Lane : Type 0
   Lane = (f : ℕ → ℕ) × Good n f

@@ -24,6 +24,21 @@ pub is-tab : (l : List ℕ) (n : ℕ) (f : ℕ → ℕ) → length l ≡ n → (
 is-tab l n f e h =
     ext-getD 0 l (tab n f) (e ∙ sym (length-tab n f)) (λ o lt. h o lt ∙ sym (getD-tab n f o (rw e at lt)))
 
+module _ {A : Type 0} where
+  pub length-table : (k : ℕ) (f : ℕ → A) → length (table k f) ≡ k
+  length-table zero f = refl
+  length-table (suc k) f = ap suc (length-table k (λ i. f (suc i)))
+
+  pub getD-table : (k : ℕ) (f : ℕ → A) (d : A) (i : ℕ) → i < k → getD (table k f) i d ≡ f i
+  getD-table zero f d i h = absurd (omega arith)
+  getD-table (suc k) f d zero h = refl
+  getD-table (suc k) f d (suc i) h = getD-table k (λ i. f (suc i)) d i (omega arith)
+
+pub map-at : {A : Type 0} (f : ℕ → A) (l : List ℕ) (d : A) (v : ℕ) → v < length l → getD (map f l) v d ≡ f (getD l v 0)
+map-at f [] d v h = absurd (omega arith)
+map-at f (a ∷ l) d zero h = refl
+map-at f (a ∷ l) d (suc v) h = map-at f l d v (omega arith)
+
 pub map-table : {A B : Type 0} (F : A → B) (g : ℕ) (f : ℕ → A) → map F (table g f) ≡ table g (λ k. F (f k))
 map-table F zero f = refl
 map-table F (suc g) f = ap (λ l. F (f 0) ∷ l) (map-table F g (λ k. f (suc k)))

@@ -24,15 +24,6 @@ module _ {A B : Type 0} (F : A → B) where
   map-take (suc n) (a ∷ l) = ap (λ k. F a ∷ k) (map-take n l)
 
 module _ {A : Type 0} where
-  pub length-table : (k : ℕ) (f : ℕ → A) → length (table k f) ≡ k
-  length-table zero f = refl
-  length-table (suc k) f = ap suc (length-table k (λ i. f (suc i)))
-
-  pub getD-table : (k : ℕ) (f : ℕ → A) (d : A) (i : ℕ) → i < k → getD (table k f) i d ≡ f i
-  getD-table zero f d i h = absurd (omega arith)
-  getD-table (suc k) f d zero h = refl
-  getD-table (suc k) f d (suc i) h = getD-table k (λ i. f (suc i)) d i (omega arith)
-
   -- ---- what is kept depends on what is not marked, and what is lost on what is
 
   kept-one : (t : Bool) (a b : A) (m : List Bool) (k l : List A) → (t ≡ false → a ≡ b) → kept m k ≡ kept m l → kept (t ∷ m) (a ∷ k) ≡ kept (t ∷ m) (b ∷ l)

@@ -6,13 +6,13 @@ ghost use mathlib.Core.Path.{_≡_};
 ghost use Prim.Native.Nat.{_+_, _<_, _≤_};
 ghost use mathlib.Core.Bool.{true, _&&_};
 ghost use lib.Dec.{ltb, eqb};
-ghost use lib.ListN.{length, replicate};
+ghost use lib.ListN.{length, replicate, take};
 ghost use Rattle.laws.specs.Choose.{choose};
 ghost use Rattle.laws.specs.Bit.{bit, weight};
 ghost use Rattle.stripe.specs.Params.{Admitted};
 ghost use Rattle.stripe.specs.declared.Reading.the-variants.{Stripe};
 ghost use Rattle.pattern.specs.Pattern.{is-lost, lost-exponents, present-exponents, consulted, pattern-fits, few-lost, asked-read, asked};
-ghost use Rattle.pattern.specs.Inner.{named, Begins, Single};
+ghost use Rattle.pattern.specs.Inner.{named, Single};
 
 // Whether the pattern names column n.
 pub fn is_lost(lost: u64, n: usize) -> bool
@@ -122,42 +122,40 @@ fn wanted(pattern: u64, i: usize, want: u64) -> usize
     if (pattern >> i) % 2 == want { 1 } else { 0 }
 }
 
-// The numbers base + i, in rising order, of the i below n whose bit in the pattern is `want`.
-fn collect(pattern: u64, n: usize, base: usize, want: u64) -> [usize; Params::MOST_COLUMNS]
-    requires { ⌜ (n ≤ 60) × (base ≤ 60) ⌝ }
-    ensures { λ x. ⌜ Begins (named pattern want base n) x ⌝ }
+// The numbers base + i, in rising order, of the i below n whose bit in the pattern is `want`: the first of them, as many as there are places.
+fn collect(pattern: u64, n: usize, base: usize, want: u64, out: &mut [usize])
+    requires { ⌜ (n ≤ 60) × (base ≤ 60) × (length (now out) ≤ length (named pattern want base n)) ⌝ }
+    ensures { λ _. ⌜ now (out .exit) ≡ take (length (now (out .entry))) (named pattern want base n) ⌝ }
 {
-    let mut out = no_exponents();
     let mut c: usize = 0;
     let mut i: usize = 0;
-    while i < n {
+    while c < out.len() {
         out[c] = base + i;
         c += wanted(pattern, i, want);
         i += 1;
     }
-    out
 }
 
 // The exponents of the lost data columns.
-pub fn lost_data(q: Params, lost: u64) -> [usize; Params::MOST_COLUMNS]
-    requires { ⌜ Admitted q ⌝ }
-    ensures { λ x. ⌜ Begins (lost-exponents q lost) x ⌝ }
+pub fn lost_data(q: Params, lost: u64, out: &mut [usize])
+    requires { ⌜ Admitted q × (length (now out) ≡ length (lost-exponents q lost)) ⌝ }
+    ensures { λ _. ⌜ now (out .exit) ≡ lost-exponents q lost ⌝ }
 {
-    collect(lost, q.k, q.r, 1)
+    collect(lost, q.k, q.r, 1, out);
 }
 
 // The exponents of the present data columns.
-pub fn present_data(q: Params, lost: u64) -> [usize; Params::MOST_COLUMNS]
-    requires { ⌜ Admitted q ⌝ }
-    ensures { λ x. ⌜ Begins (present-exponents q lost) x ⌝ }
+pub fn present_data(q: Params, lost: u64, out: &mut [usize])
+    requires { ⌜ Admitted q × (length (now out) ≡ length (present-exponents q lost)) ⌝ }
+    ensures { λ _. ⌜ now (out .exit) ≡ present-exponents q lost ⌝ }
 {
-    collect(lost, q.k, q.r, 0)
+    collect(lost, q.k, q.r, 0, out);
 }
 
 // The consulted parity columns: the lowest-numbered present ones, as many as data columns are lost.
-pub fn consulted(q: Params, lost: u64) -> [usize; Params::MOST_COLUMNS]
-    requires { ⌜ Admitted q ⌝ }
-    ensures { λ x. ⌜ Begins (consulted q lost) x ⌝ }
+pub fn consulted(q: Params, lost: u64, out: &mut [usize])
+    requires { ⌜ Admitted q × (length (now out) ≡ length (consulted q lost)) ⌝ }
+    ensures { λ _. ⌜ now (out .exit) ≡ consulted q lost ⌝ }
 {
-    collect(lost >> q.k, q.r, 0, 0)
+    collect(lost >> q.k, q.r, 0, 0, out);
 }

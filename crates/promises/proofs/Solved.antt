@@ -7,13 +7,14 @@ use mathlib.Core.Path.{_≡_, sym, ap, ap₂, _∙_, refl, fun-ext}
 use native.Mathlib.Omega.{arith}
 use lib.Dec.{T}
 use lib.ListN.{length, getD}
+use Rattle.laws.proofs.Tab.{length-table, map-at}
 use Rattle.laws.proofs.Xor.{⊕-assoc, ⊕-self, ⊕-zero}
 use Rattle.laws.specs.Bit.{weight}
 use Rattle.laws.specs.Choose.{choose}
 use Rattle.laws.specs.Part.{table}
 use Rattle.laws.specs.Xor.{_⊕_}
 use Rattle.algebra.proofs.Column.{lane-at}
-use Rattle.algebra.proofs.Encode.{decode-encode, encode-decode}
+use Rattle.algebra.proofs.Encode.{decode-encode, encode-decode, encode-map}
 use Rattle.algebra.proofs.Lost.{parity-split, same-length, all-lost}
 use Rattle.algebra.proofs.Stored.{row-good}
 use Rattle.algebra.specs.Cauchy.{row, Same}
@@ -29,7 +30,7 @@ use Rattle.block.proofs.Touching.{lane-ext}
 use Rattle.block.specs.Parity.{due}
 use Rattle.pattern.proofs.Count.{length-consulted, length-lost, consulted-distinct, lost-distinct, lost-cross, weight-mark, weight-none, prime-rows}
 use Rattle.rebuild.proofs.Decoded.{length-freed, freed-good, sum-row, lane-is, lane-good, good-table}
-use Rattle.pattern.proofs.Marks.{kept-ext, length-table, count-lost, lost-at}
+use Rattle.pattern.proofs.Marks.{kept-ext, count-lost, lost-at}
 use Rattle.rebuild.proofs.Whole.{length-consulted-lanes, consulted-good, present-good, whole-due}
 use Rattle.pattern.specs.Pattern.{few-lost, is-lost, lost-marks, lost-count, data-exponents, lost-exponents, present-exponents, consulted}
 use Rattle.rebuild.specs.Lost.{consulted-lanes, present-lanes, recovered, whole-data}
@@ -40,16 +41,7 @@ map-by : {A : Type 0} (l : List ℕ) (f g : ℕ → A) → ((v : ℕ) → v < le
 map-by [] f g h = refl
 map-by (a ∷ l) f g h = ap₂ _∷_ (h 0 (omega arith)) (map-by l f g (λ v k. h (suc v) (omega arith)))
 
-map-at : {A : Type 0} (f : ℕ → A) (l : List ℕ) (d : A) (v : ℕ) → v < length l → getD (map f l) v d ≡ f (getD l v 0)
-map-at f [] d v h = absurd (omega arith)
-map-at f (a ∷ l) d zero h = refl
-map-at f (a ∷ l) d (suc v) h = map-at f l d v (omega arith)
-
 module _ (n : ℕ) where
-  encode-map : (xs ys : List ℕ) (ss : List (ℕ → ℕ)) → map (λ (x : ℕ). row plus none (D n) (over n) x ys ss) xs ≡ encode n xs ys ss
-  encode-map [] ys ss = refl
-  encode-map (x ∷ xs) ys ss = ap (λ (l : List (ℕ → ℕ)). row plus none (D n) (over n) x ys ss ∷ l) (encode-map xs ys ss)
-
   freed-at : (xs : List ℕ) (Cs : List (ℕ → ℕ)) (zs : List ℕ) (ss : List (ℕ → ℕ)) (v : ℕ) → v < length xs → length Cs ≡ length xs
       → getD (freed n xs Cs zs ss) v none ≡ plus (getD Cs v none) (row plus none (D n) (over n) (getD xs v 0) zs ss)
   freed-at [] Cs zs ss v h e = absurd (omega arith)

@@ -4,7 +4,7 @@ use Prim.Native.Nat.{_+_, _-_, _≤_, ℕ}
 use mathlib.Core.Bool.{Bool, false, not, true}
 use mathlib.Core.List.{List, _++_}
 use mathlib.Core.Path.{_∙_, _≡_, ap, refl, subst, sym}
-use native.Mathlib.Omega.{P, arith}
+use native.Mathlib.Omega.{arith}
 use lib.ListN.{drop, length, take}
 use lib.Seq.{length-take-le}
 use borrow.Author.Tests.{not-false, not-true}
@@ -23,13 +23,13 @@ use Rattle.stripe.specs.declared.Reading.the-variants.{Stripe, Refused as Unrea
 use Rattle.refusal.specs.declared.Outcome.{Outcome}
 use Rattle.refusal.specs.declared.Outcome.the-variants.{Done, Refused}
 use Rattle.pattern.proofs.Asking.{asked-sound}
-use Rattle.rebuild.proofs.Filling.{places-lent}
+use Rattle.recovery.proofs.Ranges.{places-lent, places-room}
 use Rattle.rebuild.specs.Answer.{rebuild-read, rebuildOf, restore-asked, restoreOf}
 use Rattle.pattern.specs.Pattern.{asked, few-lost, pattern-fits, is-lost}
-use Rattle.pattern.specs.Inner.{Begins}
-use Rattle.rebuild.specs.Inner.{Planned, Prepared, Repairable, Strip-lost}
+use Rattle.pattern.specs.Inner.{Repairable}
+use Rattle.rebuild.specs.Inner.{Prepared, Strip-lost}
 use Rattle.rebuild.specs.Lost.{rebuilt, whole-byte}
-use Rattle.rebuild.specs.Words.{places}
+use Rattle.recovery.specs.Words.{places}
 
 -- ---- restore: w is what `ask` gave, c the scratch, l whether the column is lost
 
@@ -117,13 +117,17 @@ few-told q m y i j = sym i ∙ not-false y j
 pub lost-repaired : (s : List ℕ) (q : Params) (m : ℕ) → Image s q → few-lost q m ≡ true → Repairable q m
 lost-repaired s q m i e = record { admitted = i .admitted; few = true-T (few-lost q m) e }
 
-pub lost-prepared : (s : List ℕ) (q : Params) (m : ℕ) (w : List (List ℕ)) (ats out : List ℕ) → Image s q → Planned q m w → Begins (places q m) ats → length out ≡ 512
-    → Prepared s q m w (take (q .k - 0) ats) (take (q .b - 0) out)
-lost-prepared s q m w ats out i P A e =
+pub lost-room : (q : Params) (m : ℕ) (v ats : List ℕ) → few-lost q m ≡ true → ats ≡ places q m → q .k ≤ length (putMid 0 (q .k - 0) v ats)
+lost-room q m v ats t A = places-room q m v ats (true-T (few-lost q m) t) A
+
+pub lost-prepared : (s : List ℕ) (q : Params) (m : ℕ) (v ats out : List ℕ) → Image s q → few-lost q m ≡ true → ats ≡ places q m → length out ≡ 512
+    → Prepared s q m (take (q .k - 0) (putMid 0 (q .k - 0) v ats)) (take (q .b - 0) out)
+lost-prepared s q m v ats out i t A e =
+    let R : Repairable q m = lost-repaired s q m i t in
     let z : q .b - 0 ≡ q .b = omega arith in
     record {
       image = i;
-      planned = P;
-      ats-are = places-lent q m (P .repairable .few) ats A;
+      repairable = R;
+      ats-are = places-lent q m v ats (R .few) A;
       room = ap (λ (j : ℕ). length (take j out)) z ∙ length-take-le (q .b) out (omega (arith, i .admitted .b-high));
     }

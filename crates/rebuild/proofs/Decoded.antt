@@ -8,7 +8,7 @@ use native.Mathlib.Omega.{arith}
 use lib.Dec.{T}
 use lib.ListN.{length, getD, length-map}
 use Rattle.laws.proofs.Sum.{sum-front, sum-ext, sum-none}
-use Rattle.laws.proofs.Tab.{table-is, table-ext, map-table}
+use Rattle.laws.proofs.Tab.{getD-table, length-table, map-table, table-ext, table-is}
 use Rattle.laws.proofs.Xor.{zero-⊕, ⊕-assoc}
 use Rattle.laws.specs.Bit.{bit}
 use Rattle.laws.specs.Part.{table}
@@ -17,49 +17,19 @@ use Rattle.laws.specs.Xor.{_⊕_}
 use Rattle.algebra.proofs.Column.{lane-at, lane-periodic, lane-even, even-ext}
 use Rattle.algebra.proofs.Composed.{parity-words, present-words, acting-xor, composed-length}
 use Rattle.algebra.proofs.Consulted.{consulted, acting-all, lost-column}
-use Rattle.algebra.proofs.Lane.{act-periodic, act-even, D-periodic, D-even}
 use Rattle.algebra.proofs.Solves.{solves}
-use Rattle.algebra.proofs.Stored.{plus-good, row-good}
-use Rattle.algebra.specs.Cauchy.{Cross, row, less, back}
+use Rattle.algebra.proofs.Stored.{plus-good, row-good, length-decode}
+use Rattle.algebra.specs.Cauchy.{Cross, row}
 use Rattle.algebra.specs.Code.{Good, All, plus, none, decode}
 use Rattle.algebra.specs.Column.{lane}
-use Rattle.algebra.specs.Divide.{over, quot}
+use Rattle.algebra.specs.Divide.{over}
 use Rattle.algebra.specs.Lane.{D, act, Apart}
 use Rattle.algebra.specs.Prime.{odd-prime}
 use Rattle.algebra.specs.Recovery.{freed, acting, kept, entryOf, wordsOf, composedOf, with, rowOf}
 use Rattle.algebra.specs.Word.{inverseOf}
-use Rattle.pattern.proofs.Marks.{length-table, getD-table}
 
 module _ (n : ℕ) where
   -- ---- even lanes
-
-  over-good : (a b : ℕ) (f : ℕ → ℕ) → Good n f → Good n (over n a b f)
-  over-good a b f g = (act-periodic n (quot n a b) f (g .0), act-even n (quot n a b) f (g .0) (g .1))
-
-  times-good : (a b : ℕ) (f : ℕ → ℕ) → Good n f → Good n (D n a b f)
-  times-good a b f g = (D-periodic n a b f (g .0), D-even n a b f (g .0))
-
-  less-good : (x y : ℕ) (P : ℕ → ℕ) (xs : List ℕ) (Ps : List (ℕ → ℕ)) → Good n P → All n Ps → All n (less plus none (D n) (over n) x y P xs Ps)
-  less-good x y P [] Ps g a = tt
-  less-good x y P (z ∷ xs) [] g a = tt
-  less-good x y P (z ∷ xs) (R ∷ Ps) g a =
-      (over-good x z (plus (D n z y R) (D n x y P)) (plus-good n (D n z y R) (D n x y P) (times-good z y R (a .0)) (times-good x y P g)), less-good x y P xs Ps g (a .1))
-
-  back-good : (x y : ℕ) (ys : List ℕ) (ss : List (ℕ → ℕ)) → All n ss → All n (back plus none (D n) (over n) x y ys ss)
-  back-good x y [] ss a = tt
-  back-good x y (z ∷ ys) [] a = tt
-  back-good x y (z ∷ ys) (s ∷ ss) a = (over-good y z (D n x z s) (times-good x z s (a .0)), back-good x y ys ss (a .1))
-
-  pub decode-good : (xs ys : List ℕ) (Ps : List (ℕ → ℕ)) → All n Ps → All n (decode n xs ys Ps)
-  decode-good [] ys Ps a = tt
-  decode-good (x ∷ xs) [] Ps a = tt
-  decode-good (x ∷ xs) (y ∷ ys) [] a = tt
-  decode-good (x ∷ xs) (y ∷ ys) (P ∷ Ps) a =
-      let L : List (ℕ → ℕ) = less plus none (D n) (over n) x y P xs Ps in
-      let R : List (ℕ → ℕ) = back plus none (D n) (over n) x y ys (decode n xs ys L) in
-      let r : All n R = back-good x y ys (decode n xs ys L) (decode-good xs ys L (less-good x y P xs Ps (a .0) (a .1))) in
-      let w : ℕ → ℕ = row plus none (D n) (over n) x ys R in
-      (times-good x y (plus P w) (plus-good n P w (a .0) (row-good n x ys R r)), r)
 
   pub freed-good : (xs : List ℕ) (Cs : List (ℕ → ℕ)) (zs : List ℕ) (ss : List (ℕ → ℕ)) → All n Cs → All n ss → All n (freed n xs Cs zs ss)
   freed-good [] Cs zs ss a b = tt
@@ -96,26 +66,6 @@ module _ (n : ℕ) where
   lane-is s f g h = fun-ext (even-ext n (lane n s) f (lane-periodic n s) (g .0) (lane-even n s) (g .1) (λ i l. lane-at n s i l ∙ h i l))
 
   -- ---- lengths
-
-  length-less : (x y : ℕ) (P : ℕ → ℕ) (xs : List ℕ) (Ps : List (ℕ → ℕ)) → length Ps ≡ length xs → length (less plus none (D n) (over n) x y P xs Ps) ≡ length xs
-  length-less x y P [] Ps e = refl
-  length-less x y P (z ∷ xs) [] e = e
-  length-less x y P (z ∷ xs) (R ∷ Ps) e = ap suc (length-less x y P xs Ps (omega arith))
-
-  length-back : (x y : ℕ) (ys : List ℕ) (ss : List (ℕ → ℕ)) → length ss ≡ length ys → length (back plus none (D n) (over n) x y ys ss) ≡ length ys
-  length-back x y [] ss e = refl
-  length-back x y (z ∷ ys) [] e = e
-  length-back x y (z ∷ ys) (s ∷ ss) e = ap suc (length-back x y ys ss (omega arith))
-
-  pub length-decode : (xs ys : List ℕ) (Ps : List (ℕ → ℕ)) → length ys ≡ length xs → length Ps ≡ length xs → length (decode n xs ys Ps) ≡ length xs
-  length-decode [] ys Ps e f = refl
-  length-decode (x ∷ xs) [] Ps e f = e
-  length-decode (x ∷ xs) (y ∷ ys) [] e f = f
-  length-decode (x ∷ xs) (y ∷ ys) (P ∷ Ps) e f =
-      let L : List (ℕ → ℕ) = less plus none (D n) (over n) x y P xs Ps in
-      let d : length (decode n xs ys L) ≡ length xs = length-decode xs ys L (omega arith) (length-less x y P xs Ps (omega arith)) in
-      let b : length (back plus none (D n) (over n) x y ys (decode n xs ys L)) ≡ length ys = length-back x y ys (decode n xs ys L) (omega arith) in
-      omega arith
 
   pub length-freed : (xs : List ℕ) (Cs : List (ℕ → ℕ)) (zs : List ℕ) (ss : List (ℕ → ℕ)) → length Cs ≡ length xs → length (freed n xs Cs zs ss) ≡ length xs
   length-freed [] Cs zs ss e = refl

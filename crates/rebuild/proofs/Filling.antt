@@ -9,7 +9,9 @@ use native.Mathlib.Nat.{zero-add}
 use native.Mathlib.Omega.{arith}
 use lib.Dec.{T, ltb}
 use lib.ListN.{getD, length, take}
+use lib.Seq.{length-take-le}
 use borrow.Author.Tests.{le-ltb, lt-ltb}
+use borrow.Rule.Slice.PartMut.{putMid}
 use Rattle.laws.proofs.Patch.{patched}
 use Rattle.laws.proofs.Rows.{row-in}
 use Rattle.laws.proofs.Tab.{is-tab}
@@ -20,23 +22,21 @@ use Rattle.laws.specs.Patch.{Patched, patch}
 use Rattle.laws.specs.Xor.{_⊕_}
 use Rattle.stripe.proofs.Places.{parity-strip-from, strip-in}
 use Rattle.stripe.specs.Layout.{column-length, parity-strip-at, rows, strip-at}
+use Rattle.stripe.specs.Params.{Admitted}
 use Rattle.stripe.specs.Reading.{Image}
 use Rattle.engine.specs.Strips.{Columns, onto, taken}
 use Rattle.stripe.specs.declared.Params.{Params}
 use Rattle.rebuild.proofs.Filled.{agrees-filled, agrees-self, filled-rebuilt}
 use Rattle.rebuild.proofs.Independent.{agrees-image, whole-byte-agrees}
-use Rattle.rebuild.proofs.Placing.{begun}
-use Rattle.rebuild.proofs.Ranges.{length-column-words, length-places, places-columns}
+use Rattle.recovery.proofs.Ranges.{length-column-words, length-places, places-inside, places-lent, words-lent}
 use Rattle.rebuild.proofs.Words.{words-right}
 use Rattle.rebuild.specs.Agrees.{AgreesOutside}
 use Rattle.rebuild.specs.Answer.{column-strip-at}
 use Rattle.pattern.specs.Pattern.{few-lost, is-lost}
-use Rattle.pattern.specs.Inner.{Begins}
 use Rattle.rebuild.specs.Inner.{Column-filled, Prepared, Strip-asked, Strip-lost, Strip-place}
 use Rattle.rebuild.specs.Lost.{rebuilt, whole-byte}
-use Rattle.rebuild.specs.Words.{column-words, places}
-
--- ---- clearing and copying
+use Rattle.recovery.specs.Inner.{Lost-column}
+use Rattle.recovery.specs.Words.{column-words, places}
 
 -- ---- one strip of the sum, where c is the cleared strip
 
@@ -64,26 +64,37 @@ module _ (p t : ℕ) (src ats ws s c : List ℕ) (C : Columns p t src ats ws s) 
       ∙ ap₂ (λ (a b : ℕ). a ⊕ taken p src b t ats ws i) (ap (λ (j : ℕ). getD c j 0) (sym (zero-add i)) ∙ cleared .inner i (omega arith)) n
       ∙ zero-⊕ (taken p src (length s) t ats ws i))
 
--- ---- the places and words that the code lends
+-- ---- what taking a strip of a lost column asks
 
-module _ (q : Params) (m : ℕ) (few : T (few-lost q m)) where
-  pub places-lent : (ats : List ℕ) → Begins (places q m) ats → take (q .k - 0) ats ≡ places q m
-  places-lent ats A = begun (places q m) ats (q .k) A (sym (length-places q m few))
+places-columns : (s out : List ℕ) (q : Params) (m n t : ℕ) → Image s q → T (few-lost q m) → t < rows q → length out ≡ q .b
+    → Columns (q .p) t s (places q m) (column-words q m n) out
+places-columns s out q m n t i f h e = record {
+  small = i .admitted .p-high;
+  row = omega arith;
+  same = length-places q m f ∙ sym (length-column-words q m n);
+  inside = λ v k. rw e (omega (arith, places-inside q m v k, i .len));
+}
 
-  pub words-lent : (n : ℕ) (ws : List ℕ) → Begins (column-words q m n) ws → take (q .k - 0) ws ≡ column-words q m n
-  words-lent n ws W = begun (column-words q m n) ws (q .k) W (sym (length-column-words q m n))
+-- ---- room for the words of a lost column n, in an array w
 
--- ---- restoring one strip
+pub lost-column : (q : Params) (m n : ℕ) (w : List ℕ) → Admitted q → n < q .k + q .r → is-lost m n ≡ true → length w ≡ 60 → Lost-column q m n (take (q .k - 0) w)
+lost-column q m n w a h l e =
+    let z : q .k - 0 ≡ q .k = omega arith in
+    record { column = h; away = l; room = ap (λ (j : ℕ). length (take j w)) z ∙ length-take-le (q .k) w (omega arith) }
+
+-- ---- restoring one strip, where the places and words came back in the arrays v and w
 
 module _ (s : List ℕ) (q : Params) (m n t : ℕ) (out : List ℕ) (L : Strip-lost s q m n t out) where
-  module _ (ats ws : List ℕ) (A : Begins (places q m) ats) (W : Begins (column-words q m n) ws) where
-    pub strip-columns : Columns (q .p) t s (take (q .k - 0) ats) (take (q .k - 0) ws) out
-    strip-columns = rw (places-lent q m (L .few) ats A, words-lent q m (L .few) n ws W) (places-columns s out q m n t (L .image) (L .few) (L .row) (L .room))
+  module _ (v w ats ws : List ℕ) (A : ats ≡ places q m) (W : ws ≡ column-words q m n) where
+    pub strip-columns : Columns (q .p) t s (take (q .k - 0) (putMid 0 (q .k - 0) v ats)) (take (q .k - 0) (putMid 0 (q .k - 0) w ws)) out
+    strip-columns = rw (places-lent q m v ats (L .few) A, words-lent q m n w ws W) (places-columns s out q m n t (L .image) (L .few) (L .row) (L .room))
 
-    pub strip-restored : (u : List ℕ) → u ≡ tab (length out) (taken (q .p) s (length out) t (take (q .k - 0) ats) (take (q .k - 0) ws)) → u ≡ tab (q .b) (whole-byte s q m n t)
+    pub strip-restored : (u : List ℕ)
+        → u ≡ tab (length out) (taken (q .p) s (length out) t (take (q .k - 0) (putMid 0 (q .k - 0) v ats)) (take (q .k - 0) (putMid 0 (q .k - 0) w ws)))
+        → u ≡ tab (q .b) (whole-byte s q m n t)
     strip-restored u e =
-        e ∙ ap (λ (b : ℕ). tab b (taken (q .p) s b t (take (q .k - 0) ats) (take (q .k - 0) ws))) (L .room)
-        ∙ ap₂ (λ (a w : List ℕ). tab (q .b) (taken (q .p) s (q .b) t a w)) (places-lent q m (L .few) ats A) (words-lent q m (L .few) n ws W)
+        e ∙ ap₂ (λ (a c : List ℕ). tab (length out) (taken (q .p) s (length out) t a c)) (places-lent q m v ats (L .few) A) (words-lent q m n w ws W)
+        ∙ ap (λ (b : ℕ). tab b (taken (q .p) s b t (places q m) (column-words q m n))) (L .room)
         ∙ ap (tab (q .b)) (fun-ext (λ x. words-right s q m (L .image .admitted) (L .few) n t x (L .away)))
 
 -- ---- one strip put in its place
@@ -101,6 +112,7 @@ module _ (s : List ℕ) (q : Params) (n t : ℕ) (ats ws out : List ℕ) (S : St
 
 -- ---- one column
 
+-- a column that is lost, where b is what the test gave
 pub column-away : (m n : ℕ) (b : Bool) → b ≡ is-lost m n → b ≡ true → is-lost m n ≡ true
 column-away m n b e f = sym e ∙ f
 
@@ -129,22 +141,22 @@ module _ (s : List ℕ) (q : Params) (m n : ℕ) (h : n < q .k + q .r) where
       both : (b : Bool) → b ≡ true → b ≡ false → _≡_ {A = ℕ} 0 1
       both b x y = cc
 
-  module _ (w : List (List ℕ)) (ats out : List ℕ) (P : Prepared s q m w ats out) (ws : List ℕ) (W : Begins (column-words q m n) ws) (t : List ℕ) (v : ℕ) (D : Column-filled s t q m n v) (l : v < q .p - 1) where
+  module _ (ats out : List ℕ) (P : Prepared s q m ats out) (ws : List ℕ) (W : ws ≡ column-words q m n) (t : List ℕ) (v : ℕ) (D : Column-filled s t q m n v) (l : v < q .p - 1) where
     few : T (few-lost q m)
-    few = P .planned .repairable .few
+    few = P .repairable .few
 
     image : Image t q
     image = agrees-image s t q m (D .agrees) (P .image)
 
-    pub column-asked : (o : List ℕ) → length o ≡ length out → Strip-asked t q n v ats (take (q .k - 0) ws) o
+    pub column-asked : (o : List ℕ) → length o ≡ length out → Strip-asked t q n v ats ws o
     column-asked o e = record {
       there = record { admitted = P .image .admitted; column = h; row = l };
       len = image .len;
       room = e ∙ P .room;
-      columns = rw (P .ats-are, words-lent q m few n ws W) (places-columns t o q m n v image few l (e ∙ P .room));
+      columns = rw (P .ats-are, W) (places-columns t o q m n v image few l (e ∙ P .room));
     }
 
-    pub column-more : (t′ : List ℕ) → is-lost m n ≡ true → Patched t t′ (column-strip-at q n v) (q .b) (taken (q .p) t (q .b) v ats (take (q .k - 0) ws)) → Column-filled s t′ q m n (v + 1)
+    pub column-more : (t′ : List ℕ) → is-lost m n ≡ true → Patched t t′ (column-strip-at q n v) (q .b) (taken (q .p) t (q .b) v ats ws) → Column-filled s t′ q m n (v + 1)
     column-more t′ a d = record {
       agrees = agrees-filled s t t′ q m _ (D .agrees) n v h l a d;
       below = λ o k. d .below o (omega (arith, column-start q n v)) ∙ D .below o k;
@@ -156,7 +168,7 @@ module _ (s : List ℕ) (q : Params) (m n : ℕ) (h : n < q .k + q .r) where
         go u x i (no k) b =
             let z : u ≡ v = omega arith in
             rw z (d .inner x i
-            ∙ ap₂ (λ (c y : List ℕ). taken (q .p) t (q .b) v c y x) (P .ats-are) (words-lent q m few n ws W)
+            ∙ ap₂ (λ (c y : List ℕ). taken (q .p) t (q .b) v c y x) (P .ats-are) W
             ∙ words-right t q m (P .image .admitted) few n v x a
             ∙ sym (whole-byte-agrees s t q m (D .agrees) x i n v h l))
 
@@ -198,9 +210,9 @@ column-before q c n u x h l k = go (decLt c (q .k)) (decLt n (q .k))
 pub filled-none : (s : List ℕ) (q : Params) (m : ℕ) → Filled-below s s q m 0
 filled-none s q m = record { agrees = agrees-self s q m; done = λ c u x h l k e. absurd (omega arith) }
 
-module _ (s : List ℕ) (q : Params) (m : ℕ) (w : List (List ℕ)) (ats out : List ℕ) (P : Prepared s q m w ats out) (t : List ℕ) (n : ℕ) (F : Filled-below s t q m n) where
-  pub filled-prepared : (o : List ℕ) → length o ≡ length out → Prepared t q m w ats o
-  filled-prepared o e = record { image = agrees-image s t q m (F .agrees) (P .image); planned = P .planned; ats-are = P .ats-are; room = e ∙ P .room }
+module _ (s : List ℕ) (q : Params) (m : ℕ) (ats out : List ℕ) (P : Prepared s q m ats out) (t : List ℕ) (n : ℕ) (F : Filled-below s t q m n) where
+  pub filled-prepared : (o : List ℕ) → length o ≡ length out → Prepared t q m ats o
+  filled-prepared o e = record { image = agrees-image s t q m (F .agrees) (P .image); repairable = P .repairable; ats-are = P .ats-are; room = e ∙ P .room }
 
   pub filled-more : (t′ : List ℕ) → n < q .k + q .r → Column-filled t t′ q m n (rows q) → Filled-below s t′ q m (n + 1)
   filled-more t′ h D = record {

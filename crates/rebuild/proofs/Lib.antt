@@ -1,12 +1,9 @@
 pub mod Decoded
-pub mod Ranges
 pub mod Whole
 pub mod Words
 pub mod Cells
 pub mod Independent
 pub mod Filled
 pub mod Showing
-pub mod Placing
-pub mod Wording
 pub mod Filling
 pub mod Answering

@@ -19,7 +19,7 @@ use Rattle.stripe.specs.declared.Params.{Params}
 use Rattle.stripe.specs.declared.Reading.{Reading}
 use Rattle.stripe.specs.declared.Reading.the-variants.{Stripe, Refused as Unread}
 use Rattle.pattern.proofs.Asking.{asked-sound}
-use Rattle.rebuild.specs.Answer.{column-strip-at, show-number, shown, shown-asked, shown-asked-at, shown-at}
+use Rattle.rebuild.specs.Answer.{show-number, shown, shown-asked, shown-asked-at, shown-at}
 use Rattle.pattern.specs.Inner.{Cell}
 use Rattle.pattern.specs.Pattern.{asked, is-lost}
 use Rattle.rebuild.specs.Inner.{Strip-place}

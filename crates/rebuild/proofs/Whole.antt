@@ -7,10 +7,12 @@ use mathlib.Core.Path.{_≡_, sym, ap, ap₂, _∙_}
 use lib.Dec.{T}
 use lib.ListN.{length, length-map, getD}
 use Rattle.laws.specs.Bit.{weight}
+use Rattle.laws.proofs.Tab.{length-table}
 use Rattle.laws.specs.Choose.{choose}
 use Rattle.laws.specs.Part.{table}
 use Rattle.laws.specs.Xor.{_⊕_}
 use Rattle.algebra.proofs.Lost.{parity-split, same-length}
+use Rattle.algebra.proofs.Stored.{decode-good, length-decode}
 use Rattle.algebra.specs.Cauchy.{row}
 use Rattle.algebra.specs.Code.{All, plus, none}
 use Rattle.algebra.specs.Column.{lane}
@@ -21,8 +23,8 @@ use Rattle.stripe.specs.Layout.{rows, data-byte, parity-byte}
 use Rattle.stripe.specs.declared.Params.{Params}
 use Rattle.block.specs.Parity.{due}
 use Rattle.pattern.proofs.Count.{weight-mark, weight-none, length-lost, length-consulted}
-use Rattle.rebuild.proofs.Decoded.{good-map, good-kept, good-table, good-at, lane-good, lane-self, decode-good, freed-good, length-decode, length-freed, sum-row}
-use Rattle.pattern.proofs.Marks.{kept-ext, lost-filled, length-table}
+use Rattle.rebuild.proofs.Decoded.{good-map, good-kept, good-table, good-at, lane-good, lane-self, freed-good, length-freed, sum-row}
+use Rattle.pattern.proofs.Marks.{kept-ext, lost-filled}
 use Rattle.pattern.specs.Pattern.{few-lost, is-lost, lost-marks, lost-count, data-exponents, lost-exponents, present-exponents, consulted}
 use Rattle.rebuild.specs.Lost.{consulted-lanes, present-lanes, recovered, whole-data, whole-parity}
 

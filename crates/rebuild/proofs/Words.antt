@@ -7,16 +7,13 @@ use mathlib.Core.Path.{_≡_, sym, ap, ap₂, _∙_, refl}
 use native.Mathlib.Decide.{decLt}
 use native.Mathlib.Omega.{arith}
 use lib.Dec.{T}
-use lib.ListN.{getD}
+use lib.ListN.{getD, length}
 use borrow.Author.Tests.{lt-ltb, le-ltb}
 use Rattle.laws.proofs.Tab.{table-ext, map-table}
 use Rattle.laws.specs.Bit.{weight}
-use Rattle.laws.specs.Part.{table}
-use Rattle.laws.specs.Xor.{_⊕_}
 use Rattle.algebra.specs.Code.{none}
 use Rattle.algebra.specs.Column.{lane}
-use Rattle.algebra.specs.Recovery.{kept, entryOf, wordsOf, composedOf, with, acting}
-use Rattle.algebra.specs.Word.{inverseOf}
+use Rattle.algebra.specs.Recovery.{kept, acting}
 use Rattle.stripe.specs.Layout.{rows, data-at, parity-at}
 use Rattle.stripe.specs.Params.{Admitted}
 use Rattle.stripe.specs.declared.Params.{Params}
@@ -27,9 +24,9 @@ use Rattle.pattern.proofs.Count.{prime-next, length-consulted, length-lost, pre
 use Rattle.rebuild.proofs.Decoded.{data-acting, parity-acting}
 use Rattle.pattern.proofs.Marks.{map-kept}
 use Rattle.rebuild.proofs.Whole.{length-consulted-lanes, consulted-good, present-good, whole-due}
-use Rattle.pattern.specs.Pattern.{few-lost, is-lost, lost-marks, lost-count, data-exponents, lost-exponents, present-exponents, consulted}
+use Rattle.pattern.specs.Pattern.{few-lost, is-lost, lost-marks, data-exponents, lost-exponents, present-exponents, consulted}
 use Rattle.rebuild.specs.Lost.{consulted-lanes, present-lanes, recovered, whole-data, whole-parity, whole-byte}
-use Rattle.rebuild.specs.Words.{places, matrix-row, data-words, parity-row, parity-words, column-words}
+use Rattle.recovery.specs.Words.{places, matrix-row, row-words, data-words, parity-row, parity-words, column-words}
 
 -- the columns at the places are the consulted lanes and the present ones
 place-lanes : (s : List ℕ) (q : Params) (m x : ℕ)
@@ -48,44 +45,45 @@ place-lanes s q m x =
     ∙ table-ext (q .k) (λ i. F (G (q .r + i))) (λ i. F (data-at q i)) (λ i h. let e : q .r + i - q .r ≡ i = omega arith in ap (λ (o : ℕ). F (data-at q o)) e)))
 
 module _ (s : List ℕ) (q : Params) (m : ℕ) (a : Admitted q) (f : T (few-lost q m)) where
+  small : rows q < 61
+  small = omega arith
+
+  same : length (consulted q m) ≡ length (lost-exponents q m)
+  same = length-consulted q m f ∙ sym (length-lost q m)
+
   -- lost data column number u of the lost ones
-  pub data-words-right : (u t x : ℕ) → taken (q .p) s (q .b) t (places q m) (data-words q m u) x ≡ getD (recovered s q m x) u none t
-  unfolding data-words matrix-row recovered
+  pub data-words-right : (u t x : ℕ)
+      → taken (q .p) s (q .b) t (places q m) (data-words (q .p) (consulted q m) (lost-exponents q m) (present-exponents q m) u) x ≡ getD (recovered s q m x) u none t
+  unfolding data-words row-words matrix-row recovered
   data-words-right u t x =
       let n : ℕ = rows q in
-      let g : ℕ = lost-count q m in
       let xs : List ℕ = consulted q m in
       let ys : List ℕ = lost-exponents q m in
       let zs : List ℕ = present-exponents q m in
       let Cs : List (ℕ → ℕ) = consulted-lanes s q m x in
       let ss : List (ℕ → ℕ) = present-lanes s q m x in
-      let M : ℕ → List ℕ = λ p. table g (λ v. entryOf p xs ys u v) in
-      let small : n < 61 = omega arith in
-      ap (λ (p : ℕ). taken p s (q .b) t (places q m) (M p ++ wordsOf p xs (M p) zs) x) (prime-next q a)
-      ∙ taken-acting n s (q .b) t (places q m) (M (suc n) ++ wordsOf (suc n) xs (M (suc n)) zs) x
-      ∙ ap (λ (l : List (ℕ → ℕ)). acting n (M (suc n) ++ wordsOf (suc n) xs (M (suc n)) zs) l t) (place-lanes s q m x)
-      ∙ data-acting n small (prime-rows q a) g xs ys zs Cs ss (length-consulted q m f) (length-lost q m) (length-consulted-lanes s q m x ∙ length-consulted q m f)
-      (present-cross q m a) (consulted-good s q m x) (present-good s q m x) (M (suc n)) u t refl
+      ap (λ (p : ℕ). taken p s (q .b) t (places q m) (data-words p xs ys zs u) x) (prime-next q a)
+      ∙ taken-acting n s (q .b) t (places q m) (data-words (suc n) xs ys zs u) x
+      ∙ ap (λ (l : List (ℕ → ℕ)). acting n (data-words (suc n) xs ys zs u) l t) (place-lanes s q m x)
+      ∙ data-acting n small (prime-rows q a) (length ys) xs ys zs Cs ss same refl (length-consulted-lanes s q m x ∙ same)
+      (present-cross q m a) (consulted-good s q m x) (present-good s q m x) (matrix-row (suc n) xs ys u) u t refl
 
   -- any parity column j
-  pub parity-words-right : (j t x : ℕ) → taken (q .p) s (q .b) t (places q m) (parity-words q m j) x ≡ due q (whole-data s q m) j t x
+  pub parity-words-right : (j t x : ℕ)
+      → taken (q .p) s (q .b) t (places q m) (parity-words (q .p) (consulted q m) (lost-exponents q m) (present-exponents q m) j) x ≡ due q (whole-data s q m) j t x
   unfolding parity-words parity-row matrix-row recovered
   parity-words-right j t x =
       let n : ℕ = rows q in
-      let g : ℕ = lost-count q m in
       let xs : List ℕ = consulted q m in
       let ys : List ℕ = lost-exponents q m in
       let zs : List ℕ = present-exponents q m in
       let Cs : List (ℕ → ℕ) = consulted-lanes s q m x in
       let ss : List (ℕ → ℕ) = present-lanes s q m x in
-      let C : ℕ → List ℕ = λ p. composedOf p j ys g (table g (λ u. table g (λ v. entryOf p xs ys u v))) in
-      let W : ℕ → List ℕ = λ p. C p ++ with _⊕_ (wordsOf p xs (C p) zs) (map (inverseOf p j) zs) in
-      let small : n < 61 = omega arith in
-      ap (λ (p : ℕ). taken p s (q .b) t (places q m) (W p) x) (prime-next q a)
-      ∙ taken-acting n s (q .b) t (places q m) (W (suc n)) x
-      ∙ ap (λ (l : List (ℕ → ℕ)). acting n (W (suc n)) l t) (place-lanes s q m x)
-      ∙ parity-acting n small (prime-rows q a) g xs ys zs Cs ss (length-consulted q m f) (length-lost q m) (length-consulted-lanes s q m x ∙ length-consulted q m f)
-      (present-cross q m a) (consulted-good s q m x) (present-good s q m x) (C (suc n)) j t refl
+      ap (λ (p : ℕ). taken p s (q .b) t (places q m) (parity-words p xs ys zs j) x) (prime-next q a)
+      ∙ taken-acting n s (q .b) t (places q m) (parity-words (suc n) xs ys zs j) x
+      ∙ ap (λ (l : List (ℕ → ℕ)). acting n (parity-words (suc n) xs ys zs j) l t) (place-lanes s q m x)
+      ∙ parity-acting n small (prime-rows q a) (length ys) xs ys zs Cs ss same refl (length-consulted-lanes s q m x ∙ same)
+      (present-cross q m a) (consulted-good s q m x) (present-good s q m x) (parity-row (suc n) xs ys j) j t refl
       ∙ sym (whole-due s q m x f j t)
 
   -- any lost column n

@@ -1,5 +1,4 @@
 pub mod Lost
-pub mod Words
 pub mod Answer
 pub mod Agrees
 pub mod Inner

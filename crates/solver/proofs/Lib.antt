@@ -1,4 +1,2 @@
 pub mod Lists
 pub mod Pass
-pub mod Matrix
-pub mod Present

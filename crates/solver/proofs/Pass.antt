@@ -68,7 +68,7 @@ pub back-end : (p x y : ℕ) (ys s t : List ℕ) (m : ℕ) → Row p y ys s → 
     → t ≡ backOf p x y ys s
 back-end p x y ys s t m r d h k = zip-end (settledOf p x y) ys s t m d (r .same) h k ∙ back-zip p x y ys s
 
-off-at : (p x : ℕ) (ys : List ℕ) (k : ℕ) → Off (Apart p) x ys → k < length ys → Apart p x (getD ys k 0)
+pub off-at : (p x : ℕ) (ys : List ℕ) (k : ℕ) → Off (Apart p) x ys → k < length ys → Apart p x (getD ys k 0)
 off-at p x [] k h l = absurd (not-suc-le-zero l)
 off-at p x (y ∷ ys) zero h l = h .0
 off-at p x (y ∷ ys) (suc k) h l = off-at p x ys k (h .1) (omega arith)

@@ -1,2 +1,1 @@
 pub mod System
-pub mod Matrix

@@ -37,10 +37,3 @@ riseOf p xs ys t i =
     let y : ℕ = getD ys i 0 in
     let u : List ℕ = backOf p x y (drop (i + 1) ys) (drop (i + 1) t) in
     take i t ++ (timesOf p x y (getD t i 0 ⊕ rowOf p x (drop (i + 1) ys) u) ∷ u)
-
--- present data columns zs apart from the consulted parity columns xs, a word ms for each of these, and a place of out for each present one
-pub record Consulted (p : ℕ) (xs zs ms out : List ℕ) : Type 0 where
-  pub same : length zs ≡ length out
-  pub same-row : length xs ≡ length ms
-  pub cross : Cross (Apart p) zs xs
-  pub words : Words p ms

@@ -1,16 +1,11 @@
-// The Cauchy system on words, solved in place; the recovery matrix; the words of a lost column.
-use stripe::Params;
+// The Cauchy system on words, solved in place.
 ghost use mathlib.Core.Path.{_≡_};
 ghost use Prim.Native.Nat.{_<_, _≤_, _^_};
-ghost use lib.ListN.{length, replicate};
+ghost use lib.ListN.{length};
 ghost use Rattle.algebra.specs.Prime.{Modulus};
-ghost use Rattle.algebra.specs.Recovery.{clearedOf, settledOf, lessOf, backOf, rowOf, downOf, upOf, solveOf, unitOf, wordsOf};
+ghost use Rattle.algebra.specs.Recovery.{clearedOf, settledOf, lessOf, backOf, rowOf, downOf, upOf, solveOf};
 ghost use Rattle.ring.specs.Ring.{Divisible};
-ghost use Rattle.solver.specs.System.{Row, System, riseOf, Consulted};
-ghost use Rattle.solver.specs.Matrix.{Solvable, Square, Column, Placed, Recovery};
-
-// The recovery matrix: a row of words for each lost data column.
-pub type Matrix = [[u64; Params::MOST_LOST]; Params::MOST_LOST];
+ghost use Rattle.solver.specs.System.{Row, System, riseOf};
 
 // ((x + y1)·w + (x1 + y1)·w1) / (x1 + x)
 fn cleared(x1: usize, y1: usize, w1: u64, x: usize, w: u64, p: usize) -> u64
@@ -109,78 +104,10 @@ fn ascend(xs: &[usize], ys: &[usize], v: &mut [u64], p: usize)
 }
 
 // solves the system of the exponents xs, ys for the words of v
-fn solve(xs: &[usize], ys: &[usize], v: &mut [u64], p: usize)
+pub fn solve(xs: &[usize], ys: &[usize], v: &mut [u64], p: usize)
     requires { ⌜ Modulus p × System p (now xs) (now ys) (now v) ⌝ }
     ensures { λ _. ⌜ now (v .exit) ≡ solveOf p (now (xs .entry)) (now (ys .entry)) (now (v .entry)) ⌝ }
 {
     descend(xs, ys, v, p);
     ascend(xs, ys, v, p);
-}
-
-// the unit vector v: e = x + x^2 + .. + x^(p-1) in place v
-fn unit(v: usize, p: usize) -> [u64; Params::MOST_LOST]
-    requires { ⌜ Modulus p × (v < 30) ⌝ }
-    ensures { λ r. ⌜ r ≡ unitOf p 30 v ⌝ }
-{
-    let mut col = [0u64; Params::MOST_LOST];
-    col[v] = (1 << p) - 2;
-    col
-}
-
-// column v of the matrix: the solution for the unit vector v
-fn column(xs: &[usize], ys: &[usize], v: usize, p: usize) -> [u64; Params::MOST_LOST]
-    requires { ⌜ Modulus p × Solvable p (now xs) (now ys) × (v < length (now xs)) ⌝ }
-    ensures { λ r. ⌜ Column p (now (xs .entry)) (now (ys .entry)) v r ⌝ }
-{
-    let g = xs.len();
-    let mut col = unit(v, p);
-    solve(xs, ys, &mut col[0..g], p);
-    col
-}
-
-// puts a column in place v
-fn place(m: &mut Matrix, v: usize, col: &[u64; Params::MOST_LOST])
-    requires { ⌜ Square (now m) × (v < 30) ⌝ }
-    ensures { λ _. ⌜ Placed (now (m .entry)) (now (m .exit)) v 30 (now (col .entry)) ⌝ }
-{
-    let mut u: usize = 0;
-    while u < Params::MOST_LOST {
-        m[u][v] = col[u];
-        u += 1;
-    }
-}
-
-// the matrix all 0
-fn blank() -> Matrix
-    ensures { λ r. ⌜ r ≡ replicate 30 (replicate 30 0) ⌝ }
-{
-    let zero = [0u64; Params::MOST_LOST];
-    [zero; Params::MOST_LOST]
-}
-
-// the recovery matrix of the consulted parity columns xs and the lost data columns ys
-pub fn recovery(xs: &[usize], ys: &[usize], p: usize) -> Matrix
-    requires { ⌜ Modulus p × Solvable p (now xs) (now ys) ⌝ }
-    ensures { λ r. ⌜ Recovery p (now (xs .entry)) (now (ys .entry)) (length (now (xs .entry))) r ⌝ }
-{
-    let mut m = blank();
-    let mut v: usize = 0;
-    while v < xs.len() {
-        let col = column(xs, ys, v, p);
-        place(&mut m, v, &col);
-        v += 1;
-    }
-    m
-}
-
-// what a lost column takes of each present data column zs, where `row` is its row of the matrix
-pub fn words(xs: &[usize], zs: &[usize], row: &[u64], out: &mut [u64], p: usize)
-    requires { ⌜ Modulus p × Consulted p (now xs) (now zs) (now row) (now out) ⌝ }
-    ensures { λ _. ⌜ now (out .exit) ≡ wordsOf p (now (xs .entry)) (now (row .entry)) (now (zs .entry)) ⌝ }
-{
-    let mut m: usize = 0;
-    while m < out.len() {
-        out[m] = row_sum(zs[m], xs, row, p);
-        m += 1;
-    }
 }

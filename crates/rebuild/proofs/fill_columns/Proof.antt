@@ -10,10 +10,10 @@ use Rattle.rebuild.proofs.fill_columns.Statement.{statement}
 use Rattle.rebuild.proofs.fill_columns.Tie as tie
 
 abbrev Inv-loop : tie.InvT-loop
-Inv-loop image₀ q lost m ats strip₀ columns n₀ image strip n = (n ≤ columns) × (length strip ≡ length strip₀) × Filled-below image₀ image q lost n
+Inv-loop image₀ q lost ats strip₀ columns n₀ image strip n = (n ≤ columns) × (length strip ≡ length strip₀) × Filled-below image₀ image q lost n
 
 abbrev μ-loop : tie.MeasureT-loop
-μ-loop image₀ q lost m ats strip₀ columns n₀ image strip n = columns - n
+μ-loop image₀ q lost ats strip₀ columns n₀ image strip n = columns - n
 
 add-columns : tie.Need-add-columns Inv-loop μ-loop
 add-columns c = omega arith

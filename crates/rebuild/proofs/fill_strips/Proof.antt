@@ -4,35 +4,22 @@ use mathlib.Core.Path.{_≡_}
 use lib.ListN.{length}
 use Prim.Native.Nat.{_-_, _≤_}
 use native.Mathlib.Omega.{arith}
-use borrow.Author.Needs.{needs}
 use Rattle.rebuild.specs.Inner.{Column-filled}
 use Rattle.rebuild.proofs.Filling.{column-none, column-asked, column-more, column-end}
 use Rattle.rebuild.proofs.fill_strips.Statement.{statement}
 use Rattle.rebuild.proofs.fill_strips.Tie as tie
 
 abbrev Inv-loop : tie.InvT-loop
-Inv-loop image₀ q lost n m ats strip₀ k rows words t₀ image strip t = (t ≤ rows) × (length strip ≡ length strip₀) × Column-filled image₀ image q lost n t
+Inv-loop image₀ q lost n ats words strip₀ rows t₀ image strip t = (t ≤ rows) × (length strip ≡ length strip₀) × Column-filled image₀ image q lost n t
 
 abbrev μ-loop : tie.MeasureT-loop
-μ-loop image₀ q lost n m ats strip₀ k rows words t₀ image strip t = rows - t
+μ-loop image₀ q lost n ats words strip₀ rows t₀ image strip t = rows - t
 
 sub-rows : tie.Need-sub-rows Inv-loop μ-loop
 sub-rows c = omega arith
 
-column-words-requires : tie.Need-column-words-requires Inv-loop μ-loop
-column-words-requires c κs = search needs
-
 loop-holds : tie.Need-loop-holds Inv-loop μ-loop
 loop-holds c = (omega arith, omega arith, search column-none)
-
-sub-fill-strip : tie.Need-sub-fill-strip Inv-loop μ-loop
-sub-fill-strip c = omega arith
-
-part-fill-strip-start : tie.Need-part-fill-strip-start Inv-loop μ-loop
-part-fill-strip-start c = omega arith
-
-part-fill-strip-end : tie.Need-part-fill-strip-end Inv-loop μ-loop
-part-fill-strip-end c = omega arith
 
 fill-strip-requires : tie.Need-fill-strip-requires Inv-loop μ-loop
 fill-strip-requires c κs = search column-asked
@@ -62,11 +49,7 @@ fill-strips-spec =
     Inv-loop
     μ-loop
     sub-rows
-    column-words-requires
     loop-holds
-    sub-fill-strip
-    part-fill-strip-start
-    part-fill-strip-end
     fill-strip-requires
     add-t
     loop-less

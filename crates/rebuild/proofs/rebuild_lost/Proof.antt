@@ -1,19 +1,27 @@
 -- `rebuild::rebuild_lost` meets its contract.
 -- Assumes nothing.
-use Rattle.rebuild.proofs.Answering.{lost-repaired}
-use Rattle.rebuild.proofs.Answering.{lost-prepared}
 use borrow.Author.Needs.{needs}
+use Rattle.rebuild.proofs.Answering.{lost-prepared, lost-room}
 use Rattle.rebuild.proofs.rebuild_lost.Statement.{statement}
 use Rattle.rebuild.proofs.rebuild_lost.Tie as tie
 
-recovery-requires : tie.Need-recovery-requires
-recovery-requires c κs = search lost-repaired
-
-places-requires : tie.Need-places-requires
-places-requires c κs = search lost-repaired
+no-exponents-requires : tie.Need-no-exponents-requires
+no-exponents-requires c κs = search needs
 
 blank-strip-requires : tie.Need-blank-strip-requires
 blank-strip-requires c κs = search needs
+
+sub-places : tie.Need-sub-places
+sub-places c = search needs
+
+part-ats-start : tie.Need-part-ats-start
+part-ats-start c = search needs
+
+part-ats-end : tie.Need-part-ats-end
+part-ats-end c = search needs
+
+places-requires : tie.Need-places-requires
+places-requires c κs = search needs
 
 sub-fill-columns : tie.Need-sub-fill-columns
 sub-fill-columns c = search needs
@@ -22,7 +30,7 @@ part-fill-columns-start : tie.Need-part-fill-columns-start
 part-fill-columns-start c = search needs
 
 part-fill-columns-end : tie.Need-part-fill-columns-end
-part-fill-columns-end c = search needs
+part-fill-columns-end c = search lost-room
 
 sub-fill-columns-2 : tie.Need-sub-fill-columns-2
 sub-fill-columns-2 c = search needs
@@ -46,9 +54,12 @@ pub rebuild-lost-spec : {M : Type 1} → statement M
 rebuild-lost-spec =
     tie.close
     (tie.spec
-    recovery-requires
-    places-requires
+    no-exponents-requires
     blank-strip-requires
+    sub-places
+    part-ats-start
+    part-ats-end
+    places-requires
     sub-fill-columns
     part-fill-columns-start
     part-fill-columns-end

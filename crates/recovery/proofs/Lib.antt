@@ -1,0 +1,5 @@
+pub mod Solving
+pub mod Extending
+pub mod Sourcing
+pub mod Placing
+pub mod Ranges
