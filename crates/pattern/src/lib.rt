@@ -107,7 +107,7 @@ pub fn ask(image: &[u8], lost: u64, column: usize, row: usize, room: usize) -> R
     ask_within(q, lost, column, row, room)
 }
 
-// Room for the exponents of a stripe's data columns, or of its parity columns, all 0.
+// Room for an exponent, or a place, for each of a stripe's data columns, all 0.
 pub fn no_exponents() -> [usize; Params::MOST_COLUMNS]
     ensures { λ x. ⌜ (x ≡ replicate 60 0) × (length x ≡ 60) ⌝ }
 {

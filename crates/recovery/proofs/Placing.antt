@@ -53,11 +53,12 @@ module _ (q : Params) (x n : ℕ) where
   unfolding place-of
   place-data h e = e ∙ sym (ap (λ (b : Bool). choose b (parity-at q x) (data-at q (x - q .r))) (le-ltb x (q .r) h))
 
-append-low : (b : ℕ) (k l : List ℕ) → ((v : ℕ) → v < length k → getD k v 0 < b) → ((v : ℕ) → v < length l → getD l v 0 < b)
-    → (v : ℕ) → v < length (k ++ l) → getD (k ++ l) v 0 < b
-append-low b [] l g h v i = h v i
-append-low b (a ∷ k) l g h zero i = g 0 (omega arith)
-append-low b (a ∷ k) l g h (suc v) i = append-low b k l (λ v j. g (suc v) (omega arith)) h v (omega arith)
+-- what holds of each place of two lists holds of each place of both
+pub append-each : (P : ℕ → Type 0) (k l : List ℕ) → ((v : ℕ) → v < length k → P (getD k v 0)) → ((v : ℕ) → v < length l → P (getD l v 0))
+    → (v : ℕ) → v < length (k ++ l) → P (getD (k ++ l) v 0)
+append-each P [] l g h v i = h v i
+append-each P (a ∷ k) l g h zero i = g 0 (omega arith)
+append-each P (a ∷ k) l g h (suc v) i = append-each P k l (λ v j. g (suc v) (omega arith)) h v (omega arith)
 
 module _ (q : Params) (m : ℕ) where
   pub sources-placeable : (s : List ℕ) → Repairable q m → s ≡ sources q m → Placeable q s
@@ -65,7 +66,7 @@ module _ (q : Params) (m : ℕ) where
   sources-placeable s R e =
       rw e (record {
         admitted = R .admitted;
-        low = append-low (q .k + q .r) (consulted q m) (present-exponents q m)
+        low = append-each (λ (x : ℕ). x < q .k + q .r) (consulted q m) (present-exponents q m)
             (λ v h. omega (arith, rising-at 0 (q .r) (consulted q m) (consulted-rising q m) v h .1))
             (λ v h. omega (arith, rising-at (q .r) (q .r + q .k) (present-exponents q m) (present-rising q m) v h .1));
       })

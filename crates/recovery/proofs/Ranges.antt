@@ -1,13 +1,14 @@
 -- As many words and places as there are data columns, and each place is that of a column in the image.
 -- Assumes nothing.
-use Prim.Native.Nat.{ℕ, _+_, _-_, _<_, _≤_, zero, suc}
+use Prim.Native.Nat.{ℕ, _+_, _-_, _<_, _≤_}
 use mathlib.Core.Bool.{Bool, true, false}
-use mathlib.Core.List.{List, [], _∷_, _++_, map}
-use mathlib.Core.Path.{_≡_, sym, ap, _∙_}
+use mathlib.Core.List.{List, map}
+use mathlib.Core.Path.{_≡_, sym, ap, subst, _∙_}
 use native.Mathlib.Omega.{arith}
 use lib.Dec.{T, ltb}
 use lib.ListN.{length, getD, take, length-append, length-map}
 use borrow.Rule.Slice.PartMut.{putMid}
+use Rattle.laws.proofs.Tab.{map-at}
 use Rattle.laws.specs.Bit.{weight}
 use Rattle.laws.specs.Choose.{choose}
 use Rattle.laws.specs.Xor.{_⊕_}
@@ -19,6 +20,7 @@ use Rattle.stripe.specs.declared.Params.{Params}
 use Rattle.pattern.proofs.Count.{length-lost, length-present, length-consulted, rising-at, consulted-rising, present-rising}
 use Rattle.pattern.specs.Pattern.{few-lost, lost-exponents, present-exponents, consulted}
 use Rattle.recovery.proofs.Extending.{length-matrix-row, length-parity-row, length-with}
+use Rattle.recovery.proofs.Placing.{append-each}
 use Rattle.recovery.proofs.Sourcing.{lent-front, lent-room}
 use Rattle.recovery.specs.Words.{places, matrix-row, row-words, data-words, parity-row, parity-words, column-words}
 
@@ -73,29 +75,20 @@ module _ (q : Params) (m n : ℕ) (w ws : List ℕ) (W : ws ≡ column-words q m
 
 -- ---- each place is that of a column
 
-map-inside : (f : ℕ → ℕ) (c e : ℕ) (l : List ℕ) → ((v : ℕ) → v < length l → f (getD l v 0) + c ≤ e) → (v : ℕ) → v < length l → getD (map f l) v 0 + c ≤ e
-map-inside f c e [] h v k = absurd (omega arith)
-map-inside f c e (a ∷ l) h zero k = h 0 k
-map-inside f c e (a ∷ l) h (suc v) k = map-inside f c e l (λ v k. h (suc v) (omega arith)) v (omega arith)
-
-append-inside : (c e : ℕ) (k l : List ℕ) → ((v : ℕ) → v < length k → getD k v 0 + c ≤ e) → ((v : ℕ) → v < length l → getD l v 0 + c ≤ e)
-    → (v : ℕ) → v < length (k ++ l) → getD (k ++ l) v 0 + c ≤ e
-append-inside c e [] l g h v i = h v i
-append-inside c e (a ∷ k) l g h zero i = g 0 (omega arith)
-append-inside c e (a ∷ k) l g h (suc v) i = append-inside c e k l (λ v j. g (suc v) (omega arith)) h v (omega arith)
-
 pub places-inside : (q : Params) (m v : ℕ) → v < length (places q m) → getD (places q m) v 0 + column-length q ≤ image-length q
 unfolding places
 places-inside q m v h =
     let xs : List ℕ = consulted q m in
     let zs : List ℕ = present-exponents q m in
     let G : ℕ → ℕ = λ z. data-at q (z - q .r) in
-    append-inside (column-length q) (image-length q) (map (parity-at q) xs) (map G zs)
-    (λ v k. map-inside (parity-at q) (column-length q) (image-length q) xs
-    (λ v k. parity-column-in q (getD xs v 0) (rising-at 0 (q .r) xs (consulted-rising q m) v k .1)) v (rw (length-map xs (parity-at q)) at k))
-    (λ v k. map-inside G (column-length q) (image-length q) zs
+    let In : ℕ → Type 0 = λ x. x + column-length q ≤ image-length q in
+    append-each In (map (parity-at q) xs) (map G zs)
     (λ v k.
-    let z = rising-at (q .r) (q .r + q .k) zs (present-rising q m) v k in
+    let l : v < length xs = rw (length-map xs (parity-at q)) at k in
+    subst In (sym (map-at (parity-at q) xs 0 v l)) (parity-column-in q (getD xs v 0) (rising-at 0 (q .r) xs (consulted-rising q m) v l .1)))
+    (λ v k.
+    let l : v < length zs = rw (length-map zs G) at k in
+    let z = rising-at (q .r) (q .r + q .k) zs (present-rising q m) v l in
     let b : getD zs v 0 - q .r < q .k = omega arith in
-    omega (arith, data-column-in q (getD zs v 0 - q .r) b, parity-in q)) v (rw (length-map zs G) at k))
+    subst In (sym (map-at G zs 0 v l)) (omega (arith, data-column-in q (getD zs v 0 - q .r) b, parity-in q)))
     v h

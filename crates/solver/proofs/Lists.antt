@@ -20,11 +20,6 @@ words-at p [] h k = pow-pos p
 words-at p (w ∷ l) h zero = h .0
 words-at p (w ∷ l) h (suc k) = words-at p l (h .1) k
 
--- words by their places
-pub words-by : (p : ℕ) (l : List ℕ) → ((k : ℕ) → k < length l → getD l k 0 < 2 ^ p) → Words p l
-words-by p [] h = tt
-words-by p (w ∷ l) h = (h 0 (omega arith), words-by p l (λ k g. h (suc k) (omega arith)))
-
 pub words-take : (p i : ℕ) (l : List ℕ) → Words p l → Words p (take i l)
 words-take p zero l h = tt
 words-take p (suc i) [] h = tt
