@@ -14,7 +14,7 @@ use Rattle.laws.specs.Sum.{pick, sum}
 use Rattle.algebra.proofs.Action.{act-word-one}
 use Rattle.algebra.proofs.Column.{act-lt, D-lt, act-ext}
 use Rattle.algebra.proofs.Divide.{divides, only, quot-periodic, quot-digit, gap-pos, gap-lt, word-at}
-use Rattle.algebra.proofs.Lane.{D-periodic, D-sym, act-periodic, act-even, act-code, act-swap}
+use Rattle.algebra.proofs.Lane.{D-act, D-periodic, D-sym, act-periodic, act-even, act-code, act-swap}
 use Rattle.algebra.proofs.Period.{rotate}
 use Rattle.algebra.proofs.Prime.{prime-three}
 use Rattle.algebra.proofs.Weight.{weigh}
@@ -183,3 +183,29 @@ product-over zero a b w = refl
 product-over (suc n) a b w =
     ap (pack (suc n)) (fun-ext (act-ext n (bit (pack (suc n) (quot n a b))) (quot n a b) (laneOf (suc n) w)
     (λ i l. bit-pack (suc n) (quot n a b) i l ∙ mod-eq-of-lt (quot-digit n a b i))))
+
+-- ---- products and quotients of one word
+
+-- it may be multiplied before or after it is divided
+pub times-past : (n a b c d w : ℕ) → timesOf (suc n) a b (overOf (suc n) c d w) ≡ overOf (suc n) c d (timesOf (suc n) a b w)
+unfolding timesOf overOf
+times-past n a b c d w =
+    ap (λ (f : ℕ → ℕ). pack (suc n) (D n a b f)) (lane-over n c d w)
+    ∙ ap (pack (suc n)) (fun-ext (D-act n a b (quot n c d) (laneOf (suc n) w)))
+    ∙ sym (ap (λ (f : ℕ → ℕ). pack (suc n) (over n c d f)) (lane-times n a b w))
+
+-- a quotient has even weight, whatever is divided
+quotient-even : (n a b w : ℕ) → n < 61 → T (odd-prime (suc n)) → Apart (suc n) a b → EvenWord n (overOf (suc n) a b w)
+quotient-even n a b w h t d =
+    let l : ℕ → ℕ = laneOf (suc n) w in
+    subst (Even n)
+    (sym (lane-over n a b w ∙ fun-ext (act-swap n (quot n a b) l (quot-periodic n a b) (laneOf-periodic (suc n) w) (quot-digit n a b) (laneOf-digit (suc n) w))))
+    (act-even n l (quot n a b) (quot-periodic n a b) (quot-even n a b h t d))
+
+-- multiplied by x^x + x^z, divided by x^y + x^z and then by x^x + x^z, it is divided by x^y + x^z alone
+pub over-back : (n x y z w : ℕ) → n < 61 → T (odd-prime (suc n)) → Apart (suc n) x z → Apart (suc n) y z
+    → overOf (suc n) x z (overOf (suc n) y z (timesOf (suc n) x z w)) ≡ overOf (suc n) y z w
+over-back n x y z w h t d e =
+    let c : ℕ = overOf (suc n) y z w in
+    ap (overOf (suc n) x z) (sym (times-past n x z y z w))
+    ∙ sym (over-only n h t x z d (timesOf (suc n) x z c) c (over-lt (suc n) y z w) (quotient-even n y z w h t e) refl)

@@ -14,14 +14,15 @@ use Rattle.laws.specs.Patch.{Patched}
 use Rattle.laws.specs.Xor.{_⊕_}
 use Rattle.algebra.proofs.Bounds.{row-lt}
 use Rattle.algebra.proofs.Passes.{two-passes}
-use Rattle.algebra.proofs.Words.{times-lt, over-lt}
+use Rattle.algebra.proofs.Prime.{prime-three}
+use Rattle.algebra.proofs.Words.{over-back, over-lt, times-lt, times-past}
 use Rattle.algebra.specs.Cauchy.{Off, Distinct, Cross}
 use Rattle.algebra.specs.Lane.{Apart}
 use Rattle.algebra.specs.Prime.{Modulus}
 use Rattle.algebra.specs.Recovery.{clearedOf, settledOf, lessOf, backOf, rowOf, downOf, upOf, solveOf}
 use Rattle.algebra.specs.Word.{timesOf, overOf}
 use Rattle.ring.specs.Ring.{Divisible}
-use Rattle.solver.proofs.Lists.{words-at, words-take, words-drop, words-join, zip, zipAt, words-zip, zip-end, tail-part, tail-put, drop-next, length-zip}
+use Rattle.solver.proofs.Lists.{words-at, words-take, words-drop, words-join, zip, zipAt, words-zip, zip-end, zip-more, tail-part, tail-put, drop-next, length-zip}
 use Rattle.solver.specs.System.{Row, System, riseOf, Words}
 
 -- ---- one word
@@ -32,13 +33,6 @@ times-small p a b w x e = subst (λ (y : ℕ). y < 2 ^ p) (sym e) (times-lt p a 
 pub cleared-is : (p x1 y1 w1 x w u v r : ℕ) → u ≡ timesOf p x y1 w → v ≡ timesOf p x1 y1 w1 → r ≡ overOf p x1 x (bitXor u v) → r ≡ clearedOf p x1 y1 w1 x w
 unfolding clearedOf _⊕_
 cleared-is p x1 y1 w1 x w u v r e f g = g ∙ ap₂ (λ (a b : ℕ). overOf p x1 x (bitXor a b)) e f
-
-pub settled-is : (p x1 y1 y w u r : ℕ) → u ≡ timesOf p x1 y w → r ≡ overOf p y1 y u → r ≡ settledOf p x1 y1 y w
-unfolding settledOf
-settled-is p x1 y1 y w u r e g = g ∙ ap (overOf p y1 y) e
-
-pub times-divisible : (p a b c d w z u : ℕ) → Divisible p a b z → u ≡ timesOf p c d w → Divisible p a b u
-times-divisible p a b c d w z u h e = record { exponents = h .exponents; word = times-small p c d w u e }
 
 pub sum-divisible : (p a b c d w c′ d′ w′ z u v : ℕ) → Divisible p a b z → u ≡ timesOf p c d w → v ≡ timesOf p c′ d′ w′ → Divisible p a b (bitXor u v)
 sum-divisible p a b c d w c′ d′ w′ z u v h e f = record {
@@ -113,6 +107,44 @@ row-divisible p x ys s m M r h = record {
   exponents = record { modulus = M; apart = off-at p x ys m (r .off) (omega (arith, r .same)) };
   word = words-at p s (r .words) m;
 }
+
+-- ---- settle: the quotient by y of each word of s, multiplied by x, in its place in t, and all quotients added up
+
+times-settled : (p x y z w : ℕ) → Modulus p → timesOf p x z (overOf p y z w) ≡ settledOf p x y z w
+unfolding settledOf
+times-settled zero x y z w M = absurd (omega (arith, prime-three 0 (M .prime)))
+times-settled (suc n) x y z w M = times-past n x z y z w
+
+-- the quotient of a settled word is that of the word
+settled-over : (p x y z w : ℕ) → Modulus p → Apart p x z → Apart p y z → overOf p x z (settledOf p x y z w) ≡ overOf p y z w
+unfolding settledOf
+settled-over zero x y z w M d e = absurd (omega (arith, prime-three 0 (M .prime)))
+settled-over (suc n) x y z w M d e = over-back n x y z w (M .small) (M .prime) d e
+
+back-row : (p x y : ℕ) (ys s : List ℕ) → Modulus p → Off (Apart p) x ys → Off (Apart p) y ys → rowOf p x ys (backOf p x y ys s) ≡ rowOf p y ys s
+unfolding rowOf backOf settledOf
+back-row p x y [] s M o e = refl
+back-row p x y (z ∷ ys) [] M o e = refl
+back-row p x y (z ∷ ys) (w ∷ s) M o e = ap₂ _⊕_ (settled-over p x y z w M (o .0) (e .0)) (back-row p x y ys s M (o .1) (e .1))
+
+pub part-in : (p y : ℕ) (ys s t : List ℕ) (m : ℕ) (f : ℕ → ℕ) → Row p y ys s → Patched s t 0 m f → m < length t → getD ys m 0 ≤ p
+part-in p y ys s t m f R d h = let a = off-at p y ys m (R .off) (omega (arith, R .same, d .len)) in omega (arith, a .1)
+
+module _ (p x y : ℕ) (ys s t : List ℕ) (m : ℕ) (M : Modulus p) (R : Row p y ys s) (d : Patched s t 0 m (zipAt (settledOf p x y) ys s)) (h : m < length t)
+    (r : ℕ) (e : r ≡ overOf p y (getD ys m 0) (getD t m 0)) where
+  pub part-low : r < 2 ^ p
+  part-low = subst (λ (z : ℕ). z < 2 ^ p) (sym e) (over-lt p y (getD ys m 0) (getD t m 0))
+
+  pub settle-more : (u : ℕ) → u ≡ timesOf p x (getD ys m 0) r → Patched s (set t m u) 0 (m + 1) (zipAt (settledOf p x y) ys s)
+  settle-more u f = zip-more (settledOf p x y) ys s t m u d h (f ∙ ap (timesOf p x (getD ys m 0)) e ∙ times-settled p x y (getD ys m 0) (getD t m 0) M)
+
+  pub settle-sum : (a : ℕ) → a ⊕ rowOf p y (drop m ys) (drop m s) ≡ rowOf p y ys s → bitXor a r ⊕ rowOf p y (drop (m + 1) ys) (drop (m + 1) s) ≡ rowOf p y ys s
+  settle-sum a f = row-more p y ys s m a r R (omega (arith, d .len)) f (e ∙ ap (overOf p y (getD ys m 0)) (d .above m (omega arith)))
+
+pub settle-end : (p x y : ℕ) (ys s t : List ℕ) (m a : ℕ) (f : ℕ → ℕ) → Modulus p → Row p y ys s → Off (Apart p) x ys → Patched s t 0 m f → m ≤ length t → length t ≤ m
+    → a ⊕ rowOf p y (drop m ys) (drop m s) ≡ rowOf p y ys s → a ≡ rowOf p x ys (backOf p x y ys s)
+settle-end p x y ys s t m a f M R o d h k e =
+    row-end p y ys s m a R (omega (arith, d .len)) (omega (arith, d .len)) e ∙ sym (back-row p x y ys s M o (R .off))
 
 -- ---- the first pass
 
@@ -248,6 +280,9 @@ module _ (p : ℕ) (xs ys t : List ℕ) (S : System p xs ys t) (i : ℕ) (h : i 
   pub rise-row : Row p (getD ys i 0) (take (length ys - (i + 1)) (drop (i + 1) ys)) (take (length t - (i + 1)) (drop (i + 1) t))
   rise-row = rw (tail-part ys (i + 1), tail-part t (i + 1)) after
 
+  pub rise-off : Off (Apart p) (getD xs i 0) (take (length ys - (i + 1)) (drop (i + 1) ys))
+  rise-off = rw (tail-part ys (i + 1)) (off-drop p (getD xs i 0) ys (i + 1) (cross-off p xs ys i (S .cross) (omega (arith, S .same-x))))
+
   U : List ℕ
   U = backOf p (getD xs i 0) (getD ys i 0) (drop (i + 1) ys) (drop (i + 1) t)
 
@@ -268,30 +303,15 @@ module _ (p : ℕ) (xs ys t : List ℕ) (S : System p xs ys t) (i : ℕ) (h : i 
     put-is : putMid (i + 1) (length t - (i + 1)) t u ≡ take (i + 1) t ++ U
     put-is = tail-put t u (i + 1) ∙ ap (λ (z : List ℕ). take (i + 1) t ++ z) u-is
 
-    rest-is : take (length (putMid (i + 1) (length t - (i + 1)) t u) - (i + 1)) (drop (i + 1) (putMid (i + 1) (length t - (i + 1)) t u)) ≡ U
-    rest-is =
-        tail-part (putMid (i + 1) (length t - (i + 1)) t u) (i + 1) ∙ ap (drop (i + 1)) put-is ∙ drop-at (take (i + 1) t) U (i + 1) head-length
-
-    pub rise-row-sum : Row p (getD xs i 0) (take (length ys - (i + 1)) (drop (i + 1) ys))
-        (take (length (putMid (i + 1) (length t - (i + 1)) t u) - (i + 1)) (drop (i + 1) (putMid (i + 1) (length t - (i + 1)) t u)))
-    unfolding U
-    rise-row-sum =
-        rw (tail-part ys (i + 1), rest-is)
-        (record {
-          same = omega (arith, length-U, length-drop (i + 1) ys, S .same-y);
-          off = off-drop p (getD xs i 0) ys (i + 1) (cross-off p xs ys i (S .cross) (omega (arith, S .same-x)));
-          words = back-words p (getD xs i 0) (getD ys i 0) (drop (i + 1) ys) (drop (i + 1) t);
-        })
-
     value-is : getD (putMid (i + 1) (length t - (i + 1)) t u) i 0 ≡ getD t i 0
     value-is =
         ap (λ (z : List ℕ). getD z i 0) put-is ∙ List·getD-append (take (i + 1) t) U 0 i (omega (arith, head-length)) ∙ getD-take (i + 1) t i 0 (omega arith)
 
     module _ (g : ℕ)
         (f : g ≡ rowOf p (getD xs i 0) (take (length ys - (i + 1)) (drop (i + 1) ys))
-        (take (length (putMid (i + 1) (length t - (i + 1)) t u) - (i + 1)) (drop (i + 1) (putMid (i + 1) (length t - (i + 1)) t u)))) where
+        (backOf p (getD xs i 0) (getD ys i 0) (take (length ys - (i + 1)) (drop (i + 1) ys)) (take (length t - (i + 1)) (drop (i + 1) t)))) where
       g-is : g ≡ rowOf p (getD xs i 0) (drop (i + 1) ys) U
-      g-is = f ∙ ap₂ (rowOf p (getD xs i 0)) (tail-part ys (i + 1)) rest-is
+      g-is = f ∙ ap₂ (rowOf p (getD xs i 0)) (tail-part ys (i + 1)) (sym e ∙ u-is)
 
       pub rise-sum : bitXor (getD (putMid (i + 1) (length t - (i + 1)) t u) i 0) g < 2 ^ p
       rise-sum =

@@ -2,8 +2,10 @@
 ghost use mathlib.Core.Path.{_≡_};
 ghost use Prim.Native.Nat.{_<_, _≤_, _^_};
 ghost use lib.ListN.{length};
+ghost use Rattle.algebra.specs.Cauchy.{Off};
+ghost use Rattle.algebra.specs.Lane.{Apart};
 ghost use Rattle.algebra.specs.Prime.{Modulus};
-ghost use Rattle.algebra.specs.Recovery.{clearedOf, settledOf, lessOf, backOf, rowOf, downOf, upOf, solveOf};
+ghost use Rattle.algebra.specs.Recovery.{clearedOf, lessOf, backOf, rowOf, downOf, upOf, solveOf};
 ghost use Rattle.ring.specs.Ring.{Divisible};
 ghost use Rattle.solver.specs.System.{Row, System, riseOf};
 
@@ -20,14 +22,6 @@ fn cleared(x1: usize, y1: usize, w1: u64, x: usize, w: u64, p: usize) -> u64
     )
 }
 
-// (x1 + y)·w / (y1 + y)
-fn settled(x1: usize, y1: usize, y: usize, w: u64, p: usize) -> u64
-    requires { ⌜ Divisible p y1 y w × (x1 ≤ p) ⌝ }
-    ensures { λ r. ⌜ r ≡ settledOf p x1 y1 y w ⌝ }
-{
-    ring::quotient(ring::times(w, x1, y, p), y1, y, p)
-}
-
 // each word of v freed of the first unknown
 fn lessen(x1: usize, y1: usize, w1: u64, xs: &[usize], v: &mut [u64], p: usize)
     requires { ⌜ Modulus p × Row p x1 (now xs) (now v) × (y1 ≤ p) × (w1 < 2 ^ p) ⌝ }
@@ -40,16 +34,22 @@ fn lessen(x1: usize, y1: usize, w1: u64, xs: &[usize], v: &mut [u64], p: usize)
     }
 }
 
-// each unknown after the first, from that of the system without the first
-fn settle(x1: usize, y1: usize, ys: &[usize], v: &mut [u64], p: usize)
-    requires { ⌜ Modulus p × Row p y1 (now ys) (now v) × (x1 ≤ p) ⌝ }
+// each unknown after the first, (x1 + y)·w / (y1 + y), from that of the system without the first; the sum of these unknowns, each divided by x1 + y:
+// of w / (y1 + y)
+fn settle(x1: usize, y1: usize, ys: &[usize], v: &mut [u64], p: usize) -> u64
+    requires { ⌜ Modulus p × Row p y1 (now ys) (now v) × Off (Apart p) x1 (now ys) × (x1 ≤ p) ⌝ }
     ensures { λ _. ⌜ now (v .exit) ≡ backOf p x1 y1 (now (ys .entry)) (now (v .entry)) ⌝ }
+    ensures { λ r. ⌜ r ≡ rowOf p x1 (now (ys .entry)) (backOf p x1 y1 (now (ys .entry)) (now (v .entry))) ⌝ }
 {
+    let mut sum = 0;
     let mut m: usize = 0;
     while m < v.len() {
-        v[m] = settled(x1, y1, ys[m], v[m], p);
+        let part = ring::quotient(v[m], y1, ys[m], p);
+        v[m] = ring::times(part, x1, ys[m], p);
+        sum = sum ^ part;
         m += 1;
     }
+    sum
 }
 
 // the sum of v / (x + y)
@@ -87,8 +87,8 @@ fn rise(xs: &[usize], ys: &[usize], v: &mut [u64], i: usize, p: usize)
     let next = i + 1;
     let x = xs[i];
     let y = ys[i];
-    settle(x, y, &ys[next..], &mut v[next..], p);
-    v[i] = ring::times(v[i] ^ row_sum(x, &ys[next..], &v[next..], p), x, y, p);
+    let sum = settle(x, y, &ys[next..], &mut v[next..], p);
+    v[i] = ring::times(v[i] ^ sum, x, y, p);
 }
 
 // the second pass: from the last unknown to the first

@@ -1,7 +1,7 @@
 -- `solver::rise` meets its contract.
 -- Assumes nothing.
 use borrow.Author.Needs.{needs}
-use Rattle.solver.proofs.Pass.{rise-x, rise-y, rise-row, rise-row-sum, rise-sum, rise-end}
+use Rattle.solver.proofs.Pass.{rise-x, rise-y, rise-row, rise-off, rise-sum, rise-end}
 use Rattle.solver.proofs.rise.Statement.{statement}
 use Rattle.solver.proofs.rise.Tie as tie
 
@@ -45,40 +45,13 @@ part-settle-end-2 : tie.Need-part-settle-end-2
 part-settle-end-2 c = search needs
 
 settle-requires : tie.Need-settle-requires
-settle-requires c κs = (search needs, search rise-row, search rise-x)
+settle-requires c κs = (search needs, search rise-row, search rise-off, search rise-x)
 
 mul-times : tie.Need-mul-times
 mul-times c = search needs
 
 slice-read-times : tie.Need-slice-read-times
 slice-read-times c = search needs
-
-mul-row-sum : tie.Need-mul-row-sum
-mul-row-sum c = search needs
-
-sub-row-sum : tie.Need-sub-row-sum
-sub-row-sum c = search needs
-
-part-row-sum-start : tie.Need-part-row-sum-start
-part-row-sum-start c = search needs
-
-part-row-sum-end : tie.Need-part-row-sum-end
-part-row-sum-end c = search needs
-
-mul-row-sum-2 : tie.Need-mul-row-sum-2
-mul-row-sum-2 c = search needs
-
-sub-row-sum-2 : tie.Need-sub-row-sum-2
-sub-row-sum-2 c = search needs
-
-part-row-sum-start-2 : tie.Need-part-row-sum-start-2
-part-row-sum-start-2 c = search needs
-
-part-row-sum-end-2 : tie.Need-part-row-sum-end-2
-part-row-sum-end-2 c = search needs
-
-row-sum-requires : tie.Need-row-sum-requires
-row-sum-requires c κs = (search needs, search rise-row-sum)
 
 times-requires : tie.Need-times-requires
 times-requires c κs = (search rise-sum, search rise-x, search rise-y, search needs)
@@ -115,15 +88,6 @@ rise-spec =
     settle-requires
     mul-times
     slice-read-times
-    mul-row-sum
-    sub-row-sum
-    part-row-sum-start
-    part-row-sum-end
-    mul-row-sum-2
-    sub-row-sum-2
-    part-row-sum-start-2
-    part-row-sum-end-2
-    row-sum-requires
     times-requires
     mul-v
     slice-write-v
