@@ -1,4 +1,6 @@
 // The calls for C: each hands on what the call behind it answers, as three numbers. Nothing is asked of the caller.
+#![tactic(auto)]
+
 ghost use Rattle.std.specs.Prelude.{◌≡◌, length};
 ghost use Rattle.ring.specs.Answer.{product_answer, divide_answer};
 ghost use Rattle.stripe.specs.declared.Reading.TheVariants.{Stripe};
@@ -23,7 +25,7 @@ use write::Written;
 
 // The number of the refusal, or 0, and the values; every one that the call does not name is 0.
 #[repr(C)]
-#[derive(Drop)]
+#[derive(Clone, Copy)]
 pub struct Answer {
     pub refusal: u64,
     pub first: u64,

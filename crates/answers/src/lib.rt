@@ -1,4 +1,6 @@
 // Answers, each a line on standard output: `done ..` or `refused N NAME`, with the distance behind it where a base is not current.
+#![tactic(auto)]
+
 ghost use Rattle.std.specs.Prelude.{◌+◌, ◌≤◌, ◌<◌, ◌++◌, length};
 ghost use Rattle.answers.specs.declared.Answer.TheVariants.{Word, Absent, Accepted, Aged, Refused};
 ghost use Rattle.texts.specs.Text.{Put, Holds, spaced, text};
@@ -13,7 +15,7 @@ use texts::{put, put_digits, put_last, put_last_pair, put_number};
 const LINE_ROOM: usize = 256;
 
 // What a command comes to. `Said`: nothing is left to say.
-#[derive(Drop)]
+#[derive(Clone, Copy)]
 pub enum Answer {
     Done,
     Word(u64),

@@ -1,4 +1,6 @@
 // A write to one data strip while columns are lost.
+#![tactic(auto)]
+
 ghost use Rattle.std.specs.Prelude.{◌≡◌, true, ◌&&◌, ◌+◌, ◌<◌, ◌≤◌, ltb, length};
 ghost use Rattle.laws.specs.Left.{Leaves};
 ghost use Rattle.laws.specs.Part.{part};

@@ -1,4 +1,6 @@
 // Parity of a block of lanes: put in its place, or compared with what stands there. A lane is byte x of each strip.
+#![tactic(auto)]
+
 ghost use Rattle.std.specs.Prelude.{◌+◌};
 ghost use Rattle.quotient.specs.Lanes.{Shows};
 ghost use Rattle.block.specs.Inner.{BlockAsked, BlockFilled, LanesRight};

@@ -1,4 +1,6 @@
 // The file of one column of an image: where its parts lie, and its writing.
+#![tactic(auto)]
+
 ghost use Rattle.std.specs.Prelude.{◌≡◌, ◌*◌, ◌≤◌};
 ghost use Rattle.laws.specs.Part.{part, put};
 ghost use Rattle.engine.specs.Strips.{Strip};

@@ -1,4 +1,6 @@
 // Column files for the boxes: the file of one column of an image, an image from such files, and how long each of them is.
+#![tactic(auto)]
+
 ghost use Rattle.std.specs.Prelude.{◌≡◌, ◌≤◌};
 ghost use Rattle.laws.specs.Left.{Leaves};
 ghost use Rattle.stripe.specs.Params.{Admitted};
@@ -19,14 +21,14 @@ pub const LARGEST_FILES: usize = (column_file::REVISIONS_FROM
     + 4 * Params::MOST_COLUMNS;
 
 // The pattern of the absent columns, or the refusal.
-#[derive(Drop)]
+#[derive(Clone, Copy)]
 pub enum Imported {
     Absent(u64),
     Refused(Refusal),
 }
 
 // How many bytes there will be, or the refusal.
-#[derive(Drop)]
+#[derive(Clone, Copy)]
 pub enum Measured {
     Bytes(usize),
     Refused(Refusal),

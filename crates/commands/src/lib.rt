@@ -1,5 +1,7 @@
 // The commands of the depot: files of images that are made, looked at and changed, and the column files of an image.
 // A changed image goes to a new file beside the old one; that is synced and looked at again before it takes the old one's name.
+#![tactic(auto)]
+
 ghost use Rattle.std.specs.Prelude.{◌≡◌, ◌≤◌, length, replicate};
 ghost use Rattle.columns.specs.Export.{measured_value};
 

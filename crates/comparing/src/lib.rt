@@ -1,4 +1,6 @@
 // Each call of the library beside the same call of the second implementation: answers and every lent byte are compared.
+#![tactic(auto)]
+
 use drawing::fill;
 use parity::Checkup;
 use refusal::Outcome;
@@ -12,7 +14,7 @@ use write::Written;
 pub const REFUSALS_END: usize = 18;
 
 // What was seen: cases, differences, and how often the library gave each number of refusal, at 0 how often none.
-#[derive(Drop)]
+#[derive(Clone, Copy)]
 pub struct Tally {
     pub cases: usize,
     pub differences: usize,

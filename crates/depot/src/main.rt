@@ -1,3 +1,5 @@
+#![tactic(auto)]
+
 // The depot's images by command: see commands.
 fn main() {
     commands::run_arguments();

@@ -1,5 +1,7 @@
 // The commands on files of data/: each line of a file of cases, and what it answers. Standard error is not seen here; the lines after show what changed.
 // Beside the commands a line may be: same A B, spoil FILE PLACE, hide FILE, lengthen FILE, large FILE.
+#![tactic(auto)]
+
 ghost use Rattle.io.specs.Counts.{IsPrefixLen};
 
 use words::Number;

@@ -1,5 +1,7 @@
 // The examples of document 01 that are run and not proved, its limits and its slips: both implementations give what the document says, and the second with a
 // slip what it says that the slip would give.
+#![tactic(auto)]
+
 use comparing::{
     Tally, answers_apart, apart, counted, noted, of_checked, of_outcome, of_reading, shapes_apart,
     slices_apart,

@@ -1,4 +1,6 @@
 // Numbers, shapes, writes and patterns drawn from the number of a case, so that each run has the same ones.
+#![tactic(auto)]
+
 use second_ground::{HALF_CIRCLE, Shape, column_at, column_size, length, rows, shaped, untested};
 use total::{
     add, bit, less, low_byte, low_half, nth_one, one_at, ones, ones_below, over, rest, times,
@@ -188,7 +190,7 @@ pub fn fill(s: &mut [u8], at: usize, n: usize, c: usize) {
 }
 
 // A write: where, against which base, how many bytes.
-#[derive(Drop)]
+#[derive(Clone, Copy)]
 pub struct Note {
     pub column: usize,
     pub row: usize,

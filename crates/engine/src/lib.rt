@@ -1,4 +1,6 @@
 // The two moves on strips that every call is made of, and the rows that a word takes of a column.
+#![tactic(auto)]
+
 ghost use Rattle.std.specs.Prelude.{◌≡◌, ◌+◌, ◌%◌, ◌^◌, ◌<◌, ◌≤◌, length};
 ghost use Rattle.std.specs.Int.Count.{count_trailing_zeros};
 ghost use Rattle.laws.specs.Bit.{bit, weight};

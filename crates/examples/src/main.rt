@@ -1,4 +1,6 @@
 // Runs the examples of document 01 and drawn cases through the library and the second implementation, and prints a line a group.
+#![tactic(auto)]
+
 use comparing::{Tally, nothing};
 use telling::{say, tell};
 use total::add;

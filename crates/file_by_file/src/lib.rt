@@ -1,4 +1,6 @@
 // Column files one after another in a slice: each is tested, and the columns are gathered that were met.
+#![tactic(auto)]
+
 ghost use Rattle.std.specs.Prelude.{◌≡◌, ◌+◌, ◌^◌, ◌<◌, ◌≤◌, length};
 ghost use Rattle.laws.specs.Xor.{◌⊕◌};
 ghost use Rattle.file_by_file.specs.Files.{alike, counted, body_step, column_step, step_of, met_from};
@@ -8,14 +10,14 @@ use refusal::Refusal;
 use stripe::{Checked, Params};
 
 // One file: its column and the place behind it; or the refusal.
-#[derive(Drop)]
+#[derive(Clone, Copy)]
 pub enum Step {
     File(usize, usize),
     Refused(Refusal),
 }
 
 // The columns that were met, as a pattern, or the refusal.
-#[derive(Drop)]
+#[derive(Clone, Copy)]
 pub enum Met {
     Columns(u64),
     Refused(Refusal),

@@ -1,4 +1,6 @@
 // The files of the depot: taken into a buffer, written, looked at again and put in the place of others; and the program's arguments.
+#![tactic(auto)]
+
 ghost use Rattle.std.specs.Prelude.{◌≡◌, ◌≤◌, length, replicate};
 ghost use Rattle.files.specs.Taken.{Within};
 
@@ -6,7 +8,7 @@ use answers::Answer;
 use stripe::Params;
 
 // How many bytes were taken into a buffer; nothing where that failed.
-#[derive(Drop)]
+#[derive(Clone, Copy)]
 pub enum Taken {
     Bytes(usize),
     Nothing,

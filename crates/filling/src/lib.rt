@@ -1,4 +1,6 @@
 // An image from column files that were all accepted: the columns of the files put in their place, zeros in the others.
+#![tactic(auto)]
+
 ghost use Rattle.std.specs.Prelude.{◌≡◌, ◌+◌, ◌*◌};
 ghost use Rattle.laws.specs.Part.{part, put};
 ghost use Rattle.stripe.specs.Layout.{column_length, revision_at};

@@ -1,4 +1,6 @@
 // Histories of writes, each in two arrangements: both implementations, and the library with itself.
+#![tactic(auto)]
+
 use comparing::{Tally, answers_apart, make_again, make_drawn, noted, of_written, slices_apart};
 use drawing::{Note, fill, note_of, spoil_lost, start_of};
 use second_ground::{Answer, Shape, answered};
@@ -10,7 +12,7 @@ const WRITES: usize = 12;
 const FIRST: usize = 4;
 
 // By which call a history writes: the one on whole images, or the one while the columns of a pattern are away.
-#[derive(Drop)]
+#[derive(Clone, Copy)]
 pub enum Way {
     Whole,
     Away(u64),

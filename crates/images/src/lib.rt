@@ -1,4 +1,6 @@
 // What the depot's commands do with one image in memory: made, refilled, rebuilt, checked, shown.
+#![tactic(auto)]
+
 ghost use Rattle.std.specs.Prelude.{◌≡◌, ◌≤◌, length};
 
 use answers::Answer;
@@ -8,7 +10,7 @@ use refusal::Outcome;
 use stripe::{Checked, Params};
 
 // An image, or a column's file, that a command made or changed in its buffer: the answer, and its length.
-#[derive(Drop)]
+#[derive(Clone, Copy)]
 pub struct Changed {
     pub answer: Answer,
     pub length: usize,

@@ -1,4 +1,6 @@
 // Lost columns: restore, show and rebuild, by both implementations.
+#![tactic(auto)]
+
 use comparing::{Tally, make_again, make_drawn, noted, slices_apart};
 use drawing::{below, seldom, spoil_lost};
 use second_ground::{Shape, rows};

@@ -1,4 +1,6 @@
 // Images that are made: right, spoiled and refilled, from wrong numbers or lengths; and how they are damaged.
+#![tactic(auto)]
+
 use comparing::{Tally, make_drawn};
 use drawing::{below, fill, pattern_of, seldom, spoil_lost};
 use second_ground::{Shape, column_size, last_count_at, rows, strip_at};

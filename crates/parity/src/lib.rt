@@ -1,4 +1,6 @@
 // Parity from data: make, refill and check.
+#![tactic(auto)]
+
 ghost use Rattle.std.specs.Prelude.{◌≡◌, ◌≤◌, eqb};
 ghost use Rattle.laws.specs.Choose.{choose};
 ghost use Rattle.laws.specs.Left.{Leaves};
@@ -20,7 +22,7 @@ const MIDDLE: usize = 32;
 const NARROW: usize = 16;
 
 // The word of wrong parities, or the refusal.
-#[derive(Drop)]
+#[derive(Clone, Copy)]
 pub enum Checkup {
     Wrong(u64),
     Refused(Refusal),

@@ -1,4 +1,6 @@
 // The pattern of lost columns: what it names, what is refused for it, and the columns that lost ones are found from.
+#![tactic(auto)]
+
 ghost use Rattle.std.specs.Prelude.{◌≡◌, ◌+◌, ◌<◌, ◌≤◌, true, ◌&&◌, ltb, eqb, length, replicate, take};
 ghost use Rattle.laws.specs.Choose.{choose};
 ghost use Rattle.laws.specs.Bit.{bit, weight};

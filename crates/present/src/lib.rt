@@ -1,4 +1,6 @@
 // A difference added to the strips of present parity columns that a data strip touches.
+#![tactic(auto)]
+
 ghost use Rattle.std.specs.Prelude.{◌≡◌, ◌<◌, ◌^◌};
 ghost use Rattle.block.specs.Touches.{touch_word};
 ghost use Rattle.present.specs.Present.{present_word};

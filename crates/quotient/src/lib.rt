@@ -1,4 +1,6 @@
 // The quotient that walks found: the sum of all rows added to each, put in its place or compared with what stands there.
+#![tactic(auto)]
+
 ghost use Rattle.std.specs.Prelude.{◌≡◌, ◌+◌, ◌-◌, ◌≤◌, length, get_or};
 ghost use Rattle.laws.specs.Xor.{◌⊕◌};
 ghost use Rattle.laws.specs.Patch.{Patched};

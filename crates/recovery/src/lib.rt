@@ -1,4 +1,6 @@
 // The words by which a lost column is a sum of word · column over the columns that it is found from; a row of the recovery matrix at a time.
+#![tactic(auto)]
+
 ghost use Rattle.std.specs.Prelude.{◌≡◌, map, ◌+◌, ◌<◌, length, replicate, take, drop};
 ghost use Rattle.laws.specs.Xor.{◌⊕◌};
 ghost use Rattle.algebra.specs.Cauchy.{Off};

@@ -1,5 +1,7 @@
 // The report of an image: what it is, the revision of each data column, each parity right or wrong.
 // It is put together in a buffer and written by one call.
+#![tactic(auto)]
+
 ghost use Rattle.std.specs.Prelude.{◌+◌, ◌*◌, ◌<◌, ◌≤◌, length};
 ghost use Rattle.stripe.specs.Reading.{Image};
 ghost use Rattle.texts.specs.Text.{Put, Holds};

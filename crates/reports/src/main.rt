@@ -1,3 +1,5 @@
+#![tactic(auto)]
+
 // The reports of the images in the files that the arguments name, one after the other.
 fn one(i: usize) {
     let mut path = io::buffer();

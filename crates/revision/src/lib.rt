@@ -1,4 +1,6 @@
 // Revisions of 32 bits on a circle: how old a base is against a revision, by how much, and the revision that follows.
+#![tactic(auto)]
+
 ghost use Rattle.std.specs.Prelude.{◌≡◌};
 ghost use Rattle.revision.specs.Revision.{distance, judged, renewed, age_number, age_distance, is_current};
 
@@ -8,7 +10,7 @@ use refusal::Refusal;
 const HALF: u32 = 2147483648;
 
 // How old the base of a write is: current, behind the revision by so much, ahead of it by so much, or exactly half the circle away.
-#[derive(Drop)]
+#[derive(Clone, Copy)]
 pub enum Age {
     Current,
     Older(u32),

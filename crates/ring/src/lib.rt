@@ -1,4 +1,6 @@
 // The ring of words below 2^p with x^p = 1, on elements of even weight.
+#![tactic(auto)]
+
 ghost use Rattle.std.specs.Prelude.{◌≡◌, ◌+◌, ◌*◌, ◌<◌, ◌≤◌, ◌^◌, ◌%◌, ◌/◌};
 ghost use Rattle.laws.specs.Sum.{pick};
 ghost use Rattle.algebra.specs.Divide.{evens, inv};
@@ -12,7 +14,7 @@ use refusal::Refusal;
 use stripe::Params;
 
 // What the two public calls answer.
-#[derive(Drop)]
+#[derive(Clone, Copy)]
 pub enum Element {
     Word(u64),
     Refused(Refusal),

@@ -1,4 +1,6 @@
 // The second implementation of make, refill, check and write, from document 01 alone: each data strip is added to the parity strips that it is part of. Safe whatever it is handed, and slow.
+#![tactic(auto)]
+
 use second_ground::{
     AHEAD, Answer, COLUMN, HALF_CIRCLE, HALVED, OPPOSITE, PLAIN, ROOM, ROW, STALE, Shape, UNCLEAR,
     WIDTH, answered, column_at, column_size, last_count_at, length, read, refused, rows, shaped,

@@ -1,5 +1,7 @@
 // The second implementation's ground, from document 01 alone: parameters, places, reading, the ring and which strips make up parity. Words are divided by
 // walking the chain c_(q-a) + c_(q-b) = s_q. Safe whatever it is handed. `slip`: 0, or the number of a slip to make.
+#![tactic(auto)]
+
 use total::{add, bit, less, number16, one_at, ones, ones_below, rest, times};
 
 // The numbers of refusal, read from the documents a second time.
@@ -62,7 +64,7 @@ pub const HALVED: u64 = 10;
 pub const HALF_CIRCLE: u32 = 2147483648;
 
 // The number of a refusal or 0, and the numbers beside it.
-#[derive(Drop)]
+#[derive(Clone, Copy)]
 pub struct Answer {
     pub refusal: u64,
     pub first: u64,
@@ -70,7 +72,7 @@ pub struct Answer {
 }
 
 // The number of a refusal or 0, the parameters beside it, and the slip to make.
-#[derive(Drop)]
+#[derive(Clone, Copy)]
 pub struct Shape {
     pub refusal: u64,
     pub p: usize,

@@ -1,4 +1,6 @@
 // The second implementation's rebuild, restore, show and write while columns are lost, by elimination on bits.
+#![tactic(auto)]
+
 use second::{accept, add_bytes, add_columns, all_columns, misplaced, set_parity, untimely};
 use second_ground::{
     Answer, COLUMN, COUNTED, LATE, MANY, MOVED, READ, ROOM, ROW, Shape, answered, column_at,

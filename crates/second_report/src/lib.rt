@@ -1,4 +1,6 @@
 // The second implementation's report.
+#![tactic(auto)]
+
 use second_ground::{LONG, Shape};
 use total::{add, bit, number32, times};
 

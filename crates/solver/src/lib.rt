@@ -1,4 +1,6 @@
 // The Cauchy system on words, solved in place.
+#![tactic(auto)]
+
 ghost use Rattle.std.specs.Prelude.{◌≡◌, ◌<◌, ◌≤◌, ◌^◌, length};
 ghost use Rattle.algebra.specs.Cauchy.{Off};
 ghost use Rattle.algebra.specs.Lane.{Apart};

@@ -1,4 +1,6 @@
 // The parameters of a stripe, where its parts lie in an image, and the reading and writing of an image's sections.
+#![tactic(auto)]
+
 ghost use Rattle.std.specs.Prelude.{◌≡◌, ◌+◌, ◌*◌, ◌<◌, ◌≤◌, length, replicate};
 ghost use Rattle.laws.specs.Number.{u16, u32, put16, put32};
 ghost use Rattle.stripe.specs.Params.{admitted_prime, admitted_shape, admitted_strip, checked_of, Admitted};
@@ -9,7 +11,7 @@ ghost use Rattle.stripe.specs.Sections.{numbers_at, sixteen, three, opening, Put
 use refusal::Refusal;
 
 // The parameters p, k, r and B of a stripe.
-#[derive(Drop)]
+#[derive(Clone, Copy)]
 pub struct Params {
     pub p: usize,
     pub k: usize,
@@ -18,14 +20,14 @@ pub struct Params {
 }
 
 // Parameters that were found sound, or the refusal that is due.
-#[derive(Drop)]
+#[derive(Clone, Copy)]
 pub enum Checked {
     Sound(Params),
     Refused(Refusal),
 }
 
 // The parameters of an accepted image, or the refusal that is due.
-#[derive(Drop)]
+#[derive(Clone, Copy)]
 pub enum Reading {
     Stripe(Params),
     Refused(Refusal),

@@ -1,4 +1,6 @@
 // What the program `examples` writes: names of groups and slips, what was seen, and both reports of a file.
+#![tactic(auto)]
+
 use comparing::Tally;
 use second_ground::LONG;
 use total::word;

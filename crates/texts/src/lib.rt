@@ -1,4 +1,6 @@
 // Texts and decimal numbers put one behind the other in a buffer, which a program then writes at once.
+#![tactic(auto)]
+
 ghost use Rattle.std.specs.Prelude.{◌+◌, ◌≤◌, ◌++◌, length};
 ghost use Rattle.texts.specs.Text.{Put, text, spaced, line_end};
 

@@ -1,4 +1,5 @@
 // Numbers, words and bytes for code that is safe whatever it is handed: what lies outside reads as 0 and is never written, sums wrap.
+#![tactic(auto)]
 
 // The byte at a place.
 pub fn byte(s: &[u8], at: usize) -> u8 {

@@ -1,4 +1,6 @@
 // Cases that go through the library and through the second implementation, a group of them at a time.
+#![tactic(auto)]
+
 use comparing::{Tally, counted, noted};
 use drawing::{
     AWAY, DAMAGED, HISTORIES, MADE, RING, STRIPS, UNMADE, below, damaged_length, length_of,

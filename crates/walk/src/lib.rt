@@ -1,4 +1,6 @@
 // Division by 1 + x^d in a walk over w lanes of a column: about two XORs a symbol.
+#![tactic(auto)]
+
 ghost use Rattle.std.specs.Prelude.{◌≡◌, ◌+◌, ◌-◌, ◌*◌, ◌%◌, ◌<◌, ◌≤◌, length};
 ghost use Rattle.laws.specs.Patch.{Patched};
 ghost use Rattle.walk.specs.Lanes.{StepAsked, Stepped, SteppedFirst, WalkAsked, Cleared, Walked, Sums, ColumnsAsked};

@@ -1,4 +1,6 @@
 // Words: a line of bytes that is cut at a mark, decimal numbers, lists of columns, and the command that a line asks for.
+#![tactic(auto)]
+
 ghost use Rattle.std.specs.Prelude.{◌≡◌, [], ◌≤◌, ◌<◌, min, length, get_or};
 ghost use Rattle.words.specs.Words.{parts, same_bytes, Cut};
 ghost use Rattle.words.specs.Decimal.{digit_or_ten, decimal_of};
@@ -6,21 +8,21 @@ ghost use Rattle.words.specs.Columns.{with_column, named, columns_of};
 ghost use Rattle.words.specs.Command.{asks_for, asks_from, make_words, write_words, rebuild_words, show_words, export_words, short_command, command_of};
 
 // A number, or a word that is none.
-#[derive(Drop)]
+#[derive(Clone, Copy)]
 pub enum Number {
     Value(u64),
     NoNumber,
 }
 
 // The pattern of a list of columns, or a word that is no such list.
-#[derive(Drop)]
+#[derive(Clone, Copy)]
 pub enum Lost {
     Columns(u64),
     NoList,
 }
 
 // What a line asks for: p, k, r and B; column, row, base and a pattern; a pattern; a pattern, column and row; a column.
-#[derive(Drop)]
+#[derive(Clone, Copy)]
 pub enum Command {
     Make(usize, usize, usize, usize),
     Check,

@@ -1,4 +1,6 @@
 // A write to one data strip, against a revision of its column.
+#![tactic(auto)]
+
 ghost use Rattle.std.specs.Prelude.{◌≡◌, ◌<◌, length};
 ghost use Rattle.laws.specs.Part.{tab};
 ghost use Rattle.stripe.specs.Layout.{image_length, revision_of};
@@ -16,7 +18,7 @@ use revision::Age;
 use stripe::{Params, Reading};
 
 // The new revision and the count of parity strips added to; or the age of a base that is not current; or another refusal.
-#[derive(Drop)]
+#[derive(Clone, Copy)]
 pub enum Written {
     Accepted(u32, u64),
     Aged(Age),
