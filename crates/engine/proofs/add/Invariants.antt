@@ -1,0 +1,12 @@
+-- `engine::add` meets its contract.
+-- Assumes nothing.
+use Prim.Native.Nat.{◌-◌, ◌≤◌}
+use Rattle.laws.specs.Patch.{Patched}
+use Rattle.engine.specs.Strips.{added}
+use Rattle.engine.proofs.add.Given as goal
+
+abbrev pub invariant-loop-i : goal.invariant-loop-i
+invariant-loop-i l = (l.i ≤ l.n) × Patched l.initial.s l.s l.to l.i (added l.initial.s l.to l.src l.from 1)
+
+abbrev pub decreases-loop-i : goal.decreases-loop-i
+decreases-loop-i l = l.n - l.i
