@@ -1,7 +1,7 @@
 -- What the tests of the parameters show of their definitions.
 -- Assumes nothing.
 use Prim.Native.Nat.{ℕ, zero, suc, ◌+◌, ◌-◌, ◌*◌, ◌/◌, ◌%◌, ◌^◌, ◌<◌, ◌≤◌}
-use mathlib.Core.Bool.{Bool, true, false, not, ◌&&◌}
+use mathlib.Core.Bool.{Bool, true, false, ◌&&◌}
 use mathlib.Core.List.{List}
 use mathlib.Core.Logic.{◌≢◌}
 use mathlib.Core.Path.{◌≡◌, refl, sym, ap, ◌∙◌}
@@ -9,7 +9,7 @@ use native.Mathlib.Decide.{ℕ_discrete, dec_lt}
 use native.Mathlib.Nat.{mul-le-mul, mul_comm, mul-mod_left, div-add-mod'}
 use native.Mathlib.Omega.{arith}
 use lib.Dec.{leb, T, leb→le, le→leb}
-use borrow.Author.Tests.{le-leb, not-true, not-false}
+use borrow.Author.Tests.{le-leb}
 use Rattle.laws.proofs.Choose.{and_left, and_right, both_T, T_true}
 use Rattle.laws.specs.Number.{u16}
 use Rattle.algebra.proofs.Prime.{OddPrime, prime_is, is_prime}
@@ -117,23 +117,23 @@ strip b f l = simp (le-leb 1 b f, le-leb b 512 l)
 -- ---- the ways out of `checked`: x, y and z are what the three tests gave
 
 module _ (p k r b : ℕ) (x : Bool) (e : x ≡ admitted_prime p) where
-  pub prime_refused : not x ≡ true → Refused Prime ≡ checked_of p k r b
+  pub prime_refused : x ≡ false → Refused Prime ≡ checked_of p k r b
   unfolding checked_of
-  prime_refused h = simp (sym e ∙ not-true x h)
+  prime_refused h = simp (sym e ∙ h)
 
-  module _ (o : not x ≡ false) (y : Bool) (f : y ≡ admitted_shape p k r) where
-    pub shape_refused : not y ≡ true → Refused Shape ≡ checked_of p k r b
+  module _ (o : x ≡ true) (y : Bool) (f : y ≡ admitted_shape p k r) where
+    pub shape_refused : y ≡ false → Refused Shape ≡ checked_of p k r b
     unfolding checked_of
-    shape_refused h = simp (sym e ∙ not-false x o, sym f ∙ not-true y h)
+    shape_refused h = simp (sym e ∙ o, sym f ∙ h)
 
-    module _ (n : not y ≡ false) (z : Bool) (g : z ≡ admitted_strip b) where
-      pub strip_refused : not z ≡ true → Refused Strip ≡ checked_of p k r b
+    module _ (n : y ≡ true) (z : Bool) (g : z ≡ admitted_strip b) where
+      pub strip_refused : z ≡ false → Refused Strip ≡ checked_of p k r b
       unfolding checked_of
-      strip_refused h = simp (sym e ∙ not-false x o, sym f ∙ not-false y n, sym g ∙ not-true z h)
+      strip_refused h = simp (sym e ∙ o, sym f ∙ n, sym g ∙ h)
 
-      pub sound : not z ≡ false → Sound (record { p = p; k = k; r = r; b = b }) ≡ checked_of p k r b
+      pub sound : z ≡ true → Sound (record { p = p; k = k; r = r; b = b }) ≡ checked_of p k r b
       unfolding checked_of
-      sound h = simp (sym e ∙ not-false x o, sym f ∙ not-false y n, sym g ∙ not-false z h)
+      sound h = simp (sym e ∙ o, sym f ∙ n, sym g ∙ h)
 
 -- ---- `parameters`: the numbers at a place, tested
 
