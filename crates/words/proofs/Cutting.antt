@@ -14,8 +14,6 @@ use lib.ListN.{length, get_or, take, drop, length-drop, drop_of_length-le}
 use lib.Seq.{drop-cons, get_or-drop, drop-drop, take_all}
 use borrow.Author.Tests.{eq-eqb, ne_eqb}
 use Rattle.laws.specs.Choose.{choose}
-use denote.Struct.Rest.{rest}
-use types.Run.{from}
 use Rattle.words.specs.Words.{parts, before_first, Cut}
 
 -- ---- a run without a mark

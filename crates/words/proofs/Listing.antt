@@ -9,7 +9,7 @@ use native.Mathlib.Nat.{mod-eq_of_lt}
 use native.Mathlib.Omega.{arith}
 use lib.Bits.{bit_xor}
 use lib.Dec.{eqb}
-use lib.ListN.{length, take, drop, set}
+use lib.ListN.{length, take, drop}
 use lib.Pow.{pow_pos, pow-lt}
 use borrow.Author.Tests.{eq-eqb, ne_eqb}
 use borrow.Fn.PlainCycle.{is}
@@ -19,9 +19,6 @@ use Rattle.laws.proofs.Xor.{⊕_lt, zero_⊕, ⊕_zero}
 use Rattle.laws.specs.Bit.{bit}
 use Rattle.laws.specs.Choose.{choose}
 use Rattle.laws.specs.Xor.{◌⊕◌}
-use denote.Struct.Rest.{rest}
-use types.Part.{whole}
-use types.Run.{from}
 use Rattle.words.proofs.Cutting.{cut_last, cut_more}
 use Rattle.words.specs.Columns.{with_column, then_named, columns_of, named}
 use Rattle.words.specs.Decimal.{decimal_of}

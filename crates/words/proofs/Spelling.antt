@@ -10,7 +10,6 @@ use lib.Dec.{leb, ltb}
 use lib.ListN.{length, get_or, drop, drop_of_length-le}
 use lib.Seq.{drop-cons}
 use borrow.Author.Tests.{le-leb, lt-leb, lt-ltb, le-ltb, leb-true}
-use borrow.Fn.PlainCycle.{is}
 use Rattle.laws.specs.Choose.{choose}
 use Rattle.words.specs.Decimal.{is_digit, digit_or_ten, all_digits, is_numeral, spelled, decimal_of}
 use Rattle.words.specs.declared.Number.TheVariants.{Value, NoNumber}

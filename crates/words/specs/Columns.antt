@@ -1,6 +1,6 @@
 -- "LOST a list of columns such as 0,3".
 -- Assumes nothing.
-use Rattle.std.specs.Prelude.{ℕ, min, Bool, true, false, List, [], ◌∷◌, eqb}
+use Rattle.std.specs.Prelude.{ℕ, min, List, [], ◌∷◌, eqb}
 use Rattle.laws.specs.Bit.{bit, pack}
 use Rattle.laws.specs.Choose.{choose}
 use Rattle.words.specs.declared.Number.{Number}

@@ -3,7 +3,7 @@
 -- request 4: "export IMAGE COLUMN FILE", "import IMAGE FILE..";
 -- "words that are no number, numbers above 2^64 - 1, missing or surplus words get one line of usage".
 -- Assumes nothing.
-use Rattle.std.specs.Prelude.{ℕ, ◌^◌, Bool, true, false, ◌&&◌, List, [], ◌∷◌, eqb, ltb, leb, length, get_or}
+use Rattle.std.specs.Prelude.{ℕ, ◌^◌, Bool, ◌&&◌, List, [], ◌∷◌, eqb, ltb, leb, length, get_or}
 use Rattle.laws.specs.Choose.{choose}
 use Rattle.words.specs.declared.Number.{Number}
 use Rattle.words.specs.declared.Number.TheVariants.{Value, NoNumber}
