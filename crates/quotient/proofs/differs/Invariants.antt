@@ -1,0 +1,12 @@
+-- `quotient::differs` meets its contract.
+-- Assumes nothing.
+use Prim.Native.Nat.{◌+◌, ◌-◌, ◌%◌, ◌≤◌}
+use mathlib.Core.Path.{◌≡◌}
+use Rattle.quotient.specs.Lanes.{Shows, Stand, with_sum}
+use Rattle.quotient.proofs.differs.Given as goal
+
+abbrev pub invariant-loop-t : goal.invariant-loop-t
+invariant-loop-t l = (l.t ≤ l.p - 1) × (l.f ≡ (l.t + l.j) % l.p) × Shows l.bad l.all (Stand l.s l.to l.t l.b l.w (with_sum l.acc l.sum l.p l.w l.j))
+
+abbrev pub decreases-loop-t : goal.decreases-loop-t
+decreases-loop-t l = l.p - 1 - l.t
