@@ -1,7 +1,7 @@
 -- "Reading tests in this order: at least 2 bytes, else CUT; first count, else COUNT; at least 10 bytes, else CUT; PRIME; SHAPE; STRIP;
 -- shorter than L is CUT; longer is TAIL; then the counts of sections 2, 3, 4, else COUNT."
 -- Assumes nothing.
-use Rattle.std.specs.Prelude.{ℕ, ◌+◌, ◌-◌, ◌*◌, ◌≡◌, List, [], ◌∷◌, length, ltb, eqb}
+use Rattle.std.specs.Prelude.{ℕ, ◌≡◌, List, [], ◌∷◌, length, ltb, eqb}
 use Rattle.laws.specs.Choose.{choose}
 use Rattle.laws.specs.Number.{u16}
 use Rattle.refusal.specs.declared.Refusal.{Refusal}
@@ -13,7 +13,7 @@ use Rattle.stripe.specs.declared.Checked.TheVariants.{Sound, Refused}
 use Rattle.stripe.specs.declared.Reading.{Reading}
 use Rattle.stripe.specs.declared.Reading.TheVariants.{Stripe, Refused as Unread}
 use Rattle.stripe.specs.Params.{checked_of, Admitted}
-use Rattle.stripe.specs.Layout.{column_length, data_count_at, parity_count_at, image_length}
+use Rattle.stripe.specs.Layout.{data_count_at, parity_count_at, image_length}
 
 -- "shorter than L is CUT; longer is TAIL; then the counts of sections 2, 3, 4, else COUNT"
 unfoldable pub sections_of : List ℕ → Params → Reading

@@ -1,7 +1,5 @@
 -- `stripe::Params::parity_strip_at` meets its contract. Assumes nothing.
-use Prim.Native.Nat.{◌+◌, ◌≤◌}
 use native.Mathlib.Omega.{arith}
-use Rattle.stripe.specs.Layout.{parity_strip_at}
 use Rattle.stripe.proofs.Places.{parity_strip_small}
 use Rattle.stripe.proofs.Params.parity_strip_at.Goals as goal
 

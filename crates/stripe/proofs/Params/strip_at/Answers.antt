@@ -1,7 +1,5 @@
 -- `stripe::Params::strip_at` meets its contract. Assumes nothing.
-use Prim.Native.Nat.{◌+◌, ◌≤◌}
 use native.Mathlib.Omega.{arith}
-use Rattle.stripe.specs.Layout.{strip_at}
 use Rattle.stripe.proofs.Places.{strip_small}
 use Rattle.stripe.proofs.Params.strip_at.Goals as goal
 
