@@ -9,6 +9,7 @@ ghost use Rattle.answers.specs.Line.{named, refused_start, line_of};
 
 use refusal::Refusal;
 use revision::Age;
+use std::io;
 use texts::{put, put_digits, put_last, put_last_pair, put_number};
 
 // Room for the longest line, that of an import: up to 64 columns, each with a comma before it.
@@ -171,9 +172,9 @@ fn put_answer(line: &mut [u8], answer: Answer) -> usize
     }
 }
 
-// Writes the line of an answer; whether it could be written.
-pub fn say(answer: Answer) -> bool {
+// Writes the line of an answer on standard output.
+pub fn say(rt: &impl Print, answer: Answer) -> io::Result<()> {
     let mut line = [0u8; LINE_ROOM];
     let n = put_answer(&mut line, answer);
-    io::write_all(1, &line[0..n])
+    rt.write_all(&line[0..n])
 }
