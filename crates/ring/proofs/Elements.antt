@@ -1,7 +1,7 @@
 -- Elements by their weight, and the ways out of the public calls.
 -- Assumes nothing.
 use Prim.Native.Nat.{ℕ, ◌+◌, ◌/◌, ◌%◌, ◌^◌, ◌≤◌, ◌<◌, ◌*◌}
-use mathlib.Core.Bool.{false, Bool, not, true}
+use mathlib.Core.Bool.{false, Bool, true}
 use mathlib.Core.Logic.{◌≢◌}
 use mathlib.Core.Path.{◌≡◌, refl, ap, ◌∙◌, sym}
 use native.Mathlib.Decide.{dec_lt}
@@ -10,7 +10,7 @@ use native.Mathlib.Numerals.{add-one}
 use native.Mathlib.Omega.{arith}
 use lib.Dec.{eqb, T, leb, leb→le}
 use lib.Pow.{pow_pos, split}
-use borrow.Author.Tests.{le-ltb, lt-ltb, eq-eqb, ne_eqb, not-true, not-false}
+use borrow.Author.Tests.{le-ltb, lt-ltb, eq-eqb, ne_eqb}
 use Rattle.laws.proofs.Choose.{true_T, and_left, and_right}
 use Rattle.laws.specs.Bit.{weight, bit}
 use Rattle.algebra.proofs.Words.{element_below}
@@ -54,15 +54,9 @@ element_weighed w p c z e = simp (lt-ltb w (2 ^ p) (low_is w p z)) (ap (λ (x : 
 
 -- ---- what the tests of the public calls show
 
-not_no : (t u : Bool) → t ≡ u → not t ≡ false → u ≡ true
-not_no t u e f = sym e ∙ not-false t f
-
-not_yes : (t u : Bool) → t ≡ u → not t ≡ true → u ≡ false
-not_yes t u e f = sym e ∙ not-true t f
-
-module _ (p : ℕ) (t : Bool) (e : t ≡ admitted_prime p) (f : not t ≡ false) where
+module _ (p : ℕ) (t : Bool) (e : t ≡ admitted_prime p) (f : t ≡ true) where
   admitted : T (admitted_prime p)
-  admitted = true_T (admitted_prime p) (not_no t (admitted_prime p) e f)
+  admitted = true_T (admitted_prime p) (sym e ∙ f)
 
   pub admits_small : p ≤ 61
   unfolding admitted_prime
@@ -72,10 +66,10 @@ module _ (p : ℕ) (t : Bool) (e : t ≡ admitted_prime p) (f : not t ≡ false)
   unfolding admitted_prime
   admits_modulus = record { small = admits_small; prime = and_left (odd_prime p) (leb p 61) admitted }
 
-  pub admits_factor : (w : ℕ) (c : Bool) → c ≡ element p w → not c ≡ false → Factor p w
-  admits_factor w c g h = record { small = admits_small; word = element_below p w (true_T (element p w) (not_no c (element p w) g h)) }
+  pub admits_factor : (w : ℕ) (c : Bool) → c ≡ element p w → c ≡ true → Factor p w
+  admits_factor w c g h = record { small = admits_small; word = element_below p w (true_T (element p w) (sym g ∙ h)) }
 
-  pub admits_divisible : (s a b : ℕ) (c : Bool) → c ≡ element p s → not c ≡ false → a < p → b < p → a ≢ b → Divisible p a b s
+  pub admits_divisible : (s a b : ℕ) (c : Bool) → c ≡ element p s → c ≡ true → a < p → b < p → a ≢ b → Divisible p a b s
   admits_divisible s a b c g h la lb ne = record {
     exponents = record { modulus = admits_modulus; apart = (la, lb, ne) };
     word = (admits_factor s c g h).word;
@@ -84,52 +78,52 @@ module _ (p : ℕ) (t : Bool) (e : t ≡ admitted_prime p) (f : not t ≡ false)
 -- ---- the ways out of `product` and `divide`
 
 module _ (p u v : ℕ) (t : Bool) (e : t ≡ admitted_prime p) where
-  pub product_unprime : not t ≡ true → Refused Prime ≡ product_answer p u v
+  pub product_unprime : t ≡ false → Refused Prime ≡ product_answer p u v
   unfolding product_answer
-  product_unprime f = simp (not_yes t (admitted_prime p) e f)
+  product_unprime f = simp (sym e ∙ f)
 
-  module _ (f : not t ≡ false) (c : Bool) (g : c ≡ element p u) where
-    pub product_first_odd : not c ≡ true → Refused NotElement ≡ product_answer p u v
+  module _ (f : t ≡ true) (c : Bool) (g : c ≡ element p u) where
+    pub product_first_odd : c ≡ false → Refused NotElement ≡ product_answer p u v
     unfolding product_answer
-    product_first_odd h = simp (not_no t (admitted_prime p) e f, not_yes c (element p u) g h)
+    product_first_odd h = simp (sym e ∙ f, sym g ∙ h)
 
-    module _ (h : not c ≡ false) (d : Bool) (i : d ≡ element p v) where
-      pub product_second_odd : not d ≡ true → Refused NotElement ≡ product_answer p u v
+    module _ (h : c ≡ true) (d : Bool) (i : d ≡ element p v) where
+      pub product_second_odd : d ≡ false → Refused NotElement ≡ product_answer p u v
       unfolding product_answer
-      product_second_odd j = simp (not_no t (admitted_prime p) e f, not_no c (element p u) g h, not_yes d (element p v) i j)
+      product_second_odd j = simp (sym e ∙ f, sym g ∙ h, sym i ∙ j)
 
-      pub product_found : not d ≡ false → (w : ℕ) → w ≡ product_of p u v → Word w ≡ product_answer p u v
+      pub product_found : d ≡ true → (w : ℕ) → w ≡ product_of p u v → Word w ≡ product_answer p u v
       unfolding product_answer
-      product_found j w k = simp (not_no t (admitted_prime p) e f, not_no c (element p u) g h, not_no d (element p v) i j) (ap Word k)
+      product_found j w k = simp (sym e ∙ f, sym g ∙ h, sym i ∙ j) (ap Word k)
 
 pub ruleset products = (product_unprime, product_first_odd, product_second_odd, product_found)
 
 module _ (p s a b : ℕ) (t : Bool) (e : t ≡ admitted_prime p) where
-  pub divide_unprime : not t ≡ true → Refused Prime ≡ divide_answer p s a b
+  pub divide_unprime : t ≡ false → Refused Prime ≡ divide_answer p s a b
   unfolding divide_answer
-  divide_unprime f = simp (not_yes t (admitted_prime p) e f)
+  divide_unprime f = simp (sym e ∙ f)
 
-  module _ (f : not t ≡ false) (c : Bool) (g : c ≡ element p s) where
-    pub divide_odd : not c ≡ true → Refused NotElement ≡ divide_answer p s a b
+  module _ (f : t ≡ true) (c : Bool) (g : c ≡ element p s) where
+    pub divide_odd : c ≡ false → Refused NotElement ≡ divide_answer p s a b
     unfolding divide_answer
-    divide_odd h = simp (not_no t (admitted_prime p) e f, not_yes c (element p s) g h)
+    divide_odd h = simp (sym e ∙ f, sym g ∙ h)
 
-    module _ (h : not c ≡ false) where
+    module _ (h : c ≡ true) where
       pub divide_first_high : p ≤ a → Refused Exponent ≡ divide_answer p s a b
       unfolding divide_answer different
-      divide_first_high i = simp (not_no t (admitted_prime p) e f, not_no c (element p s) g h, le-ltb a p i)
+      divide_first_high i = simp (sym e ∙ f, sym g ∙ h, le-ltb a p i)
 
       pub divide_second_high : a < p → p ≤ b → Refused Exponent ≡ divide_answer p s a b
       unfolding divide_answer different
-      divide_second_high i j = simp (not_no t (admitted_prime p) e f, not_no c (element p s) g h, lt-ltb a p i, le-ltb b p j)
+      divide_second_high i j = simp (sym e ∙ f, sym g ∙ h, lt-ltb a p i, le-ltb b p j)
 
       pub divide_alike : a < p → b < p → a ≡ b → Refused Exponent ≡ divide_answer p s a b
       unfolding divide_answer different
-      divide_alike i j k = simp (not_no t (admitted_prime p) e f, not_no c (element p s) g h, lt-ltb a p i, lt-ltb b p j, eq-eqb a b k)
+      divide_alike i j k = simp (sym e ∙ f, sym g ∙ h, lt-ltb a p i, lt-ltb b p j, eq-eqb a b k)
 
       pub divide_found : a < p → b < p → a ≢ b → (w : ℕ) → w ≡ over_of p a b s → Word w ≡ divide_answer p s a b
       unfolding divide_answer different
       divide_found i j k w l =
-          simp (not_no t (admitted_prime p) e f, not_no c (element p s) g h, lt-ltb a p i, lt-ltb b p j, ne_eqb a b k) (ap Word l)
+          simp (sym e ∙ f, sym g ∙ h, lt-ltb a p i, lt-ltb b p j, ne_eqb a b k) (ap Word l)
 
 pub ruleset divides = (divide_unprime, divide_odd, divide_first_high, divide_second_high, divide_alike, divide_found)
