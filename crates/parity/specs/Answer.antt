@@ -1,10 +1,9 @@
 -- What make, refill and check answer, and what they leave.
 -- Assumes nothing.
-use Rattle.std.specs.Prelude.{ℕ, ◌+◌, ◌*◌, ◌/◌, ◌%◌, ◌≡◌, Bool, ◌&&◌, List, length, get_or, eqb}
+use Rattle.std.specs.Prelude.{ℕ, ◌+◌, ◌*◌, ◌/◌, ◌%◌, Bool, List, length, get_or, eqb}
 use Rattle.laws.specs.Left.{Left}
 use Rattle.laws.specs.Choose.{choose, below}
 use Rattle.laws.specs.Bit.{pack}
-use Rattle.refusal.specs.declared.Refusal.{Refusal}
 use Rattle.refusal.specs.declared.Refusal.TheVariants.{Width, Room}
 use Rattle.refusal.specs.Number.{number_of}
 use Rattle.stripe.specs.declared.Params.{Params}

@@ -1,0 +1,14 @@
+-- `parity::refill_middle` meets its contract.
+-- Assumes nothing.
+use Prim.Native.Nat.{◌-◌, ◌≤◌}
+use mathlib.Core.Path.{◌≡◌}
+use lib.ListN.{length}
+use Rattle.stripe.specs.Reading.{Image}
+use Rattle.parity.specs.Inner.{ColumnsFilled}
+use Rattle.parity.proofs.refill_middle.Given as goal
+
+abbrev pub invariant-loop-j : goal.invariant-loop-j
+invariant-loop-j l = (l.j ≤ l.q.r) × (length l.acc ≡ 1952) × Image l.image l.q × ColumnsFilled l.initial.image l.image l.q l.j
+
+abbrev pub decreases-loop-j : goal.decreases-loop-j
+decreases-loop-j l = l.q.r - l.j
