@@ -1,0 +1,10 @@
+-- `filling::clear_revisions` meets its contract.
+-- Assumes nothing.
+use Rattle.filling.proofs.Putting.{revisions_cleared, no_revisions_cleared}
+use Rattle.filling.proofs.clear_revisions.Goals as goal
+
+pub returns-then-n-q : goal.returns-then-n-q
+returns-then-n-q c = search revisions_cleared
+
+pub returns-else-n-q : goal.returns-else-n-q
+returns-else-n-q c = search no_revisions_cleared
