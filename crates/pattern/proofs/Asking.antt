@@ -49,15 +49,15 @@ few_tested q m c e = ap (λ (x : ℕ). leb x q.r) e
 
 -- ---- the ways out of `ask`
 
-no : (t u : Bool) → t ≡ u → not t ≡ true → u ≡ false
-no t u e f = sym e ∙ not-true t f
+no_it_is_not : (t u : Bool) → t ≡ u → not t ≡ true → u ≡ false
+no_it_is_not t u e f = sym e ∙ not-true t f
 
 yes_it_is : (t u : Bool) → t ≡ u → not t ≡ false → u ≡ true
 yes_it_is t u e f = sym e ∙ not-false t f
 
 module _ (q : Params) (m n c : ℕ) (x : Bool) (g : x ≡ pattern_fits q m) where
   pub within_not : not x ≡ true → false ≡ (pattern_fits q m && ltb n c)
-  within_not h = simp (no x (pattern_fits q m) g h)
+  within_not h = simp (no_it_is_not x (pattern_fits q m) g h)
 
   pub within_is : not x ≡ false → ltb n c ≡ (pattern_fits q m && ltb n c)
   within_is h = simp (yes_it_is x (pattern_fits q m) g h)
@@ -68,7 +68,7 @@ module _ (q : Params) (m n t room : ℕ) (x : Bool) (g : x ≡ (pattern_fits q m
 
   pub ask_column : not x ≡ true → Unread Column ≡ due
   unfolding asked_read
-  ask_column h = simp (no x _ g h)
+  ask_column h = simp (no_it_is_not x _ g h)
 
   module _ (h : not x ≡ false) where
     within : (pattern_fits q m && ltb n (q.k + q.r)) ≡ true
@@ -81,7 +81,7 @@ module _ (q : Params) (m n t room : ℕ) (x : Bool) (g : x ≡ (pattern_fits q m
     module _ (k : t < q.p - 1) (y : Bool) (i : y ≡ few_lost q m) where
       pub ask_many : not y ≡ true → Unread Many ≡ due
       unfolding asked_read
-      ask_many j = simp (within, lt-ltb t (rows q) k, no y (few_lost q m) i j)
+      ask_many j = simp (within, lt-ltb t (rows q) k, no_it_is_not y (few_lost q m) i j)
 
       module _ (j : not y ≡ false) where
         pub ask_room : room < q.b → Unread Room ≡ due
