@@ -38,8 +38,8 @@ fn lessen(x1: usize, y1: usize, w1: u64, xs: &[usize], v: &mut [u64], p: usize)
 // of w / (y1 + y)
 fn settle(x1: usize, y1: usize, ys: &[usize], v: &mut [u64], p: usize) -> u64
     requires { Modulus p × Row p y1 ys.now v.old × Off (Apart p) x1 ys.now × (x1 ≤ p) }
-    ensures v_after { v.new ≡ back_of p x1 y1 ys.now v.old }
-    ensures value { result ≡ row_of p x1 ys.now (back_of p x1 y1 ys.now v.old) }
+    ensures unknowns { v.new ≡ back_of p x1 y1 ys.now v.old }
+    ensures sum { result ≡ row_of p x1 ys.now (back_of p x1 y1 ys.now v.old) }
 {
     let mut sum = 0;
     let mut m: usize = 0;
