@@ -7,7 +7,6 @@ use mathlib.Core.Path.{◌≡◌, refl, sym, subst, ◌∙◌}
 use native.Mathlib.Omega.{arith}
 use lib.ListN.{length, get_or}
 use Rattle.laws.proofs.Part.{get_or_part}
-use Rattle.laws.proofs.Place.{inside}
 use Rattle.stripe.specs.Layout.{column_length, revision_at, image_length}
 use Rattle.stripe.specs.Reading.{Image}
 use Rattle.stripe.specs.declared.Params.{Params}

@@ -71,7 +71,7 @@ pub fn import(files: &[u8], image: &mut [u8]) -> Imported
 // How long the image is that such files make.
 pub fn files_length(files: &[u8]) -> Measured
     ensures value { result ≡ files_length_of files.now }
-    ensures result_bound { measured_value result ≤ 1874176 }
+    ensures within { measured_value result ≤ 1874176 }
 {
     let found = file_by_file::meet(files);
     let Met::Columns(_) = found else {
@@ -112,7 +112,7 @@ pub fn export(image: &[u8], n: usize, file: &mut [u8]) -> Outcome
 fn measure(q: Params, n: usize) -> Measured
     requires { Admitted q }
     ensures value { result ≡ file_length_sound n q }
-    ensures result_bound { measured_value result ≤ 30742 }
+    ensures within { measured_value result ≤ 30742 }
 {
     if n >= q.k + q.r {
         return Measured::Refused(Refusal::Column);
@@ -123,7 +123,7 @@ fn measure(q: Params, n: usize) -> Measured
 // How long the file of column n of an image is.
 pub fn file_length(image: &[u8], n: usize) -> Measured
     ensures value { result ≡ file_length_of image.now n }
-    ensures result_bound { measured_value result ≤ 30742 }
+    ensures within { measured_value result ≤ 30742 }
 {
     let reading = stripe::read(image);
     let Reading::Stripe(q) = reading else {
