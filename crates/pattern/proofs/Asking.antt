@@ -1,7 +1,7 @@
 -- What the tests of the calls show of their definitions.
 -- Assumes nothing.
 use Prim.Native.Nat.{◌%◌, ◌*◌, ◌+◌, ◌-◌, ◌/◌, ◌<◌, ◌^◌, ◌≤◌, ℕ}
-use mathlib.Core.Bool.{Bool, ◌&&◌, false, not, true}
+use mathlib.Core.Bool.{Bool, ◌&&◌, false, true}
 use mathlib.Core.List.{List}
 use mathlib.Core.Path.{◌∙◌, ◌≡◌, ap, refl, sym}
 use native.Mathlib.Decide.{dec_lt}
@@ -11,7 +11,7 @@ use lib.Dec.{eqb, leb, ltb, ltb→lt}
 use lib.ListN.{length, take}
 use lib.Pow.{pow_pos, split}
 use lib.Seq.{length-take-le}
-use borrow.Author.Tests.{eq-eqb, le-leb, le-ltb, leb-true, lt-leb, lt-ltb, ltb-true, ne_eqb, not-false, not-true}
+use borrow.Author.Tests.{eq-eqb, le-leb, le-ltb, leb-true, lt-leb, lt-ltb, ltb-true, ne_eqb}
 use Rattle.laws.proofs.Choose.{T_true, and_left, and_right, choose_yes, true_T}
 use Rattle.laws.specs.Bit.{bit, weight}
 use Rattle.stripe.proofs.Frame.{read_image}
@@ -49,48 +49,42 @@ few_tested q m c e = ap (λ (x : ℕ). leb x q.r) e
 
 -- ---- the ways out of `ask`
 
-no_it_is_not : (t u : Bool) → t ≡ u → not t ≡ true → u ≡ false
-no_it_is_not t u e f = sym e ∙ not-true t f
-
-yes_it_is : (t u : Bool) → t ≡ u → not t ≡ false → u ≡ true
-yes_it_is t u e f = sym e ∙ not-false t f
-
 module _ (q : Params) (m n c : ℕ) (x : Bool) (g : x ≡ pattern_fits q m) where
-  pub within_not : not x ≡ true → false ≡ (pattern_fits q m && ltb n c)
-  within_not h = simp (no_it_is_not x (pattern_fits q m) g h)
+  pub within_not : x ≡ false → false ≡ (pattern_fits q m && ltb n c)
+  within_not h = simp (sym g ∙ h)
 
-  pub within_is : not x ≡ false → ltb n c ≡ (pattern_fits q m && ltb n c)
-  within_is h = simp (yes_it_is x (pattern_fits q m) g h)
+  pub within_is : x ≡ true → ltb n c ≡ (pattern_fits q m && ltb n c)
+  within_is h = simp (sym g ∙ h)
 
 module _ (q : Params) (m n t room : ℕ) (x : Bool) (g : x ≡ (pattern_fits q m && ltb n (q.k + q.r))) where
   abbrev pub due : Reading
   due = asked_read m n t room (Stripe q)
 
-  pub ask_column : not x ≡ true → Unread Column ≡ due
+  pub ask_column : x ≡ false → Unread Column ≡ due
   unfolding asked_read
-  ask_column h = simp (no_it_is_not x _ g h)
+  ask_column h = simp (sym g ∙ h)
 
-  module _ (h : not x ≡ false) where
+  module _ (h : x ≡ true) where
     within : (pattern_fits q m && ltb n (q.k + q.r)) ≡ true
-    within = yes_it_is x _ g h
+    within = sym g ∙ h
 
     pub ask_row : q.p - 1 ≤ t → Unread Row ≡ due
     unfolding asked_read
     ask_row k = simp (within, le-ltb t (rows q) k)
 
     module _ (k : t < q.p - 1) (y : Bool) (i : y ≡ few_lost q m) where
-      pub ask_many : not y ≡ true → Unread Many ≡ due
+      pub ask_many : y ≡ false → Unread Many ≡ due
       unfolding asked_read
-      ask_many j = simp (within, lt-ltb t (rows q) k, no_it_is_not y (few_lost q m) i j)
+      ask_many j = simp (within, lt-ltb t (rows q) k, sym i ∙ j)
 
-      module _ (j : not y ≡ false) where
+      module _ (j : y ≡ true) where
         pub ask_room : room < q.b → Unread Room ≡ due
         unfolding asked_read
-        ask_room z = simp (within, lt-ltb t (rows q) k, yes_it_is y (few_lost q m) i j, lt-leb q.b room z)
+        ask_room z = simp (within, lt-ltb t (rows q) k, sym i ∙ j, lt-leb q.b room z)
 
         pub ask_sound : q.b ≤ room → Stripe q ≡ due
         unfolding asked_read
-        ask_sound z = simp (within, lt-ltb t (rows q) k, yes_it_is y (few_lost q m) i j, le-leb q.b room z)
+        ask_sound z = simp (within, lt-ltb t (rows q) k, sym i ∙ j, le-leb q.b room z)
 
 pub ruleset asks = (ask_column, ask_row, ask_many, ask_room, ask_sound)
 
