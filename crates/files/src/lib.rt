@@ -5,6 +5,11 @@ ghost use Rattle.std.specs.Prelude.{◌≡◌, ◌≤◌, length, replicate};
 ghost use Rattle.files.specs.Taken.{Within};
 
 use answers::Answer;
+use std::env::FillError;
+use std::fs::{File, OpenFile};
+use std::io::{Error, ErrorKind, Read, Write};
+use std::rt::{Env, Files};
+use std::{fmt, fs, io};
 use stripe::Params;
 
 // How many bytes were taken into a buffer; nothing where that failed.
@@ -14,55 +19,110 @@ pub enum Taken {
     Nothing,
 }
 
+// Bytes as text; a U+FFFD stands for what is not UTF-8.
+#[derive(Clone, Copy)]
+struct Shown<'a>(&'a [u8]);
+
+impl fmt::Display for Shown<'_> {
+    fn fmt<W: fmt::Write>(&self, f: &mut fmt::Formatter<W>) -> fmt::Result {
+        for chunk in self.0.utf8_chunks() {
+            f.write_str(chunk.valid())?;
+            if !chunk.invalid().is_empty() {
+                f.write_char('\u{fffd}')?;
+            }
+        }
+        Ok(())
+    }
+}
+
 // A line on standard error: what it is about, and what is wrong with it.
-pub fn complain(what: &[u8], why: &[u8]) {
-    io::write_all(2, what);
-    io::write_all(2, why);
+pub fn complain(rt: &impl Eprint, what: &[u8], why: &str) {
+    let _ = eprintln!(rt; "{}: {why}", Shown(what));
+}
+
+// The system's words for a failure, without the number behind them.
+fn reason<'a>(e: &Error, text: &'a mut [u8; 128]) -> &'a str {
+    let mut room = &mut text[..];
+    let _ = write!(room, "{e}");
+    let Ok(words) = str::from_utf8(words::word(text, 0, 0)) else {
+        return "";
+    };
+    match words.split_once(" (os error ") {
+        Some((words, _)) => words,
+        None => words,
+    }
+}
+
+// A line on standard error: what a call was about, and why it failed.
+pub fn fail(rt: &impl Eprint, what: &[u8], e: &Error) {
+    let mut text = [0u8; 128];
+    complain(rt, what, reason(e, &mut text));
+}
+
+// A path as the library takes it, which is UTF-8.
+fn path_text(path: &[u8]) -> io::Result<&str> {
+    match str::from_utf8(path) {
+        Ok(text) => Ok(text),
+        Err(_) => Err(Error::new(ErrorKind::InvalidInput, "not UTF-8")),
+    }
+}
+
+// Opens a file for reading.
+fn open<R: Files>(rt: &R, path: &[u8]) -> io::Result<R::File> {
+    fs::open(rt, path_text(path)?)
+}
+
+// Makes a new file, for writing; one that is there stays.
+pub fn create<R: Files>(rt: &R, path: &[u8]) -> io::Result<R::File> {
+    File::create_new(rt, path_text(path)?)
 }
 
 // Reads on until the buffer is full or the file ends.
-fn fill(fd: i32, path: &[u8], buf: &mut [u8]) -> Taken
+fn fill(rt: &impl Eprint, file: &mut impl Read, path: &[u8], buf: &mut [u8]) -> Taken
     ensures { Within buf.new result }
 {
     let mut n: usize = 0;
     while n < buf.len() {
-        let got = libc::read(fd, &mut buf[n..]);
-        if got < 0 {
-            os::fail(path);
-            return Taken::Nothing;
+        match file.read(&mut buf[n..]) {
+            Ok(0) => return Taken::Bytes(n),
+            Ok(more) => n += more,
+            Err(e) => {
+                fail(rt, path, &e);
+                return Taken::Nothing;
+            }
         }
-        let more = io::count(got, &buf[n..]);
-        if more == 0 {
-            return Taken::Bytes(n);
-        }
-        n += more;
     }
     Taken::Bytes(n)
 }
 
 // Takes a file, as much of it as the buffer holds.
-pub fn take(path: &[u8], buf: &mut [u8]) -> Taken
+pub fn take(rt: &(impl Files + Eprint), path: &[u8], buf: &mut [u8]) -> Taken
     ensures { Within buf.new result }
 {
-    let fd = os::open_read(path);
-    if fd < 0 {
-        os::fail(path);
-        return Taken::Nothing;
+    match open(rt, path) {
+        Ok(mut file) => fill(rt, &mut file, path, buf),
+        Err(e) => {
+            fail(rt, path, &e);
+            Taken::Nothing
+        }
     }
-    let taken = fill(fd, path, buf);
-    libc::close(fd);
-    taken
 }
 
 // Takes the files that a line names from a word on, one after another, as much of them as the buffer holds.
-pub fn take_each(line: &[u8], mark: u8, from: usize, buf: &mut [u8]) -> Taken
+pub fn take_each(
+    rt: &(impl Files + Eprint),
+    line: &[u8],
+    mark: u8,
+    from: usize,
+    buf: &mut [u8],
+) -> Taken
     ensures { Within buf.new result }
 {
     let count = words::count(line, mark);
     let mut n: usize = 0;
     let mut i = from;
     while i < count {
-        let Taken::Bytes(more) = take(words::word(line, mark, i), &mut buf[n..]) else {
+        let Taken::Bytes(more) = take(rt, words::word(line, mark, i), &mut buf[n..]) else {
             return Taken::Nothing;
         };
         n += more;
@@ -72,12 +132,14 @@ pub fn take_each(line: &[u8], mark: u8, from: usize, buf: &mut [u8]) -> Taken
 }
 
 // How many of the next bytes of a file are those of the slice; 0 where they are not, or the file ends.
-fn match_some(fd: i32, bytes: &[u8]) -> usize
+fn match_some(file: &mut impl Read, bytes: &[u8]) -> usize
     ensures { result ≤ length bytes.now }
 {
-    let mut buf = io::large_buffer();
-    let got = libc::read(fd, &mut buf);
-    let n = io::count(got, &buf);
+    let mut buf = [0u8; 65536];
+    let n = match file.read(&mut buf) {
+        Ok(n) => n,
+        Err(_) => 0,
+    };
     if n > bytes.len() {
         return 0;
     }
@@ -88,47 +150,59 @@ fn match_some(fd: i32, bytes: &[u8]) -> usize
 }
 
 // Whether a file ends here.
-fn is_end(fd: i32) -> bool {
+fn is_end(file: &mut impl Read) -> bool {
     let mut one = [0u8; 1];
-    libc::read(fd, &mut one) == 0
+    match file.read(&mut one) {
+        Ok(n) => n == 0,
+        Err(_) => false,
+    }
 }
 
 // Whether the rest of a file is these bytes and nothing else.
-fn match_all(fd: i32, bytes: &[u8]) -> bool {
+fn match_all(file: &mut impl Read, bytes: &[u8]) -> bool {
     let mut at: usize = 0;
     while at < bytes.len() {
-        let n = match_some(fd, &bytes[at..]);
+        let n = match_some(file, &bytes[at..]);
         if n == 0 {
             return false;
         }
         at += n;
     }
-    is_end(fd)
+    is_end(file)
 }
 
-// Looks at a file again: whether it holds these bytes and nothing else. What the system keeps of it in memory is dropped first.
-fn look(path: &[u8], bytes: &[u8]) -> bool {
-    let fd = os::open_read(path);
-    if fd < 0 {
-        os::fail(path);
-        return false;
+// Looks at a file again, opened anew: whether it holds these bytes and nothing else.
+fn look(rt: &(impl Files + Eprint), path: &[u8], bytes: &[u8]) -> bool {
+    match open(rt, path) {
+        Ok(mut file) => {
+            let same = match_all(&mut file, bytes);
+            if !same {
+                complain(rt, path, "not what was written");
+            }
+            same
+        }
+        Err(e) => {
+            fail(rt, path, &e);
+            false
+        }
     }
-    libc::posix_fadvise(fd, 0, 0, libc::POSIX_FADV_DONTNEED);
-    let same = match_all(fd, bytes);
-    libc::close(fd);
-    if !same {
-        complain(path, b": not what was written\n");
-    }
-    same
 }
 
 // Writes the bytes to a new file and syncs it.
-fn store(fd: i32, path: &[u8], bytes: &[u8]) -> bool {
-    if io::write_all(fd, bytes) && libc::fsync(fd) == 0 {
-        return true;
+fn write_synced(file: &mut (impl Write + OpenFile), bytes: &[u8]) -> io::Result<()> {
+    file.write_all(bytes)?;
+    file.sync_all()
+}
+
+// The same; whether it went well, and why not is said.
+fn store(rt: &impl Eprint, file: &mut (impl Write + OpenFile), path: &[u8], bytes: &[u8]) -> bool {
+    match write_synced(file, bytes) {
+        Ok(()) => true,
+        Err(e) => {
+            fail(rt, path, &e);
+            false
+        }
     }
-    os::fail(path);
-    false
 }
 
 // The length of a path's folder, with its last slash.
@@ -147,32 +221,54 @@ fn folder(path: &[u8]) -> usize
 }
 
 // Opens the folder of a path.
-fn open_folder(path: &[u8]) -> i32 {
+fn open_folder<R: Files>(rt: &R, path: &[u8]) -> io::Result<R::File> {
     let n = folder(path);
     if n == 0 {
-        return os::open_read(b".");
+        return open(rt, b".");
     }
-    os::open_read(&path[0..n])
+    open(rt, &path[0..n])
+}
+
+// Gives a file another name.
+fn rename(rt: &impl Files, from: &[u8], to: &[u8]) -> io::Result<()> {
+    fs::rename(rt, path_text(from)?, path_text(to)?)
 }
 
 // Gives the new file the image's name, and syncs the folder that holds the name.
-fn replace(path: &[u8], new: &[u8]) -> bool {
-    let dir = open_folder(path);
-    if dir < 0 {
-        os::fail(path);
+fn replace(rt: &(impl Files + Eprint), path: &[u8], new: &[u8]) -> bool {
+    let dir = match open_folder(rt, path) {
+        Ok(dir) => dir,
+        Err(e) => {
+            fail(rt, path, &e);
+            return false;
+        }
+    };
+    if let Err(e) = rename(rt, new, path) {
+        fail(rt, path, &e);
         return false;
     }
-    let done = os::rename(new, path) == 0;
-    if !(done && libc::fsync(dir) == 0) {
-        os::fail(path);
+    if let Err(e) = dir.sync_all() {
+        fail(rt, path, &e);
     }
-    libc::close(dir);
-    done
+    true
+}
+
+// Removes a file, if it can be.
+fn remove(rt: &impl Files, path: &[u8]) {
+    if let Ok(text) = path_text(path) {
+        let _ = fs::remove_file(rt, text);
+    }
 }
 
 // The house rule: written once, synced, looked at again; then it has the file's name.
-fn settle(fd: i32, path: &[u8], new: &[u8], bytes: &[u8]) -> bool {
-    store(fd, new, bytes) && look(new, bytes) && replace(path, new)
+fn settle<R: Files + Eprint>(
+    rt: &R,
+    file: &mut R::File,
+    path: &[u8],
+    new: &[u8],
+    bytes: &[u8],
+) -> bool {
+    store(rt, file, new, bytes) && look(rt, new, bytes) && replace(rt, path, new)
 }
 
 // Whether an answer says that there is something new to keep.
@@ -189,13 +285,20 @@ fn is_change(answer: Answer) -> bool {
 }
 
 // The answer, once what is new is kept; the new file is removed where nothing came of it.
-pub fn keep(answer: Answer, fd: i32, path: &[u8], new: &[u8], bytes: &[u8]) -> Answer {
+pub fn keep<R: Files + Eprint>(
+    rt: &R,
+    answer: Answer,
+    file: &mut R::File,
+    path: &[u8],
+    new: &[u8],
+    bytes: &[u8],
+) -> Answer {
     if !is_change(answer) {
-        os::unlink(new);
+        remove(rt, new);
         return answer;
     }
-    if !settle(fd, path, new, bytes) {
-        os::unlink(new);
+    if !settle(rt, file, path, new, bytes) {
+        remove(rt, new);
         return Answer::Said;
     }
     answer
@@ -216,30 +319,31 @@ pub fn name_new(path: &[u8], name: &mut [u8]) -> usize
 }
 
 // Whether a path names a link: the new file would replace it, and what it leads to would stay as it was.
-pub fn is_link(path: &[u8]) -> bool {
-    if path.len() > 4091 {
+pub fn is_link(rt: &impl Files, path: &[u8]) -> bool {
+    let Ok(text) = path_text(path) else {
         return false;
+    };
+    match fs::symlink_metadata(rt, text) {
+        Ok(found) => found.is_symlink(),
+        Err(_) => false,
     }
-    let mut name = io::buffer();
-    engine::copy_in(&mut name, 0, path);
-    name[4095] = 0;
-    let mut text = [0u8; 1];
-    libc::readlink(&name, &mut text) >= 0
 }
 
 // Whether a path is free: nothing has that name, nor is anything else in the way.
-pub fn is_free(path: &[u8]) -> bool {
-    let fd = os::open_read(path);
-    if fd >= 0 {
-        libc::close(fd);
-        complain(path, b": there is a file of that name\n");
-        return false;
+pub fn is_free(rt: &(impl Files + Eprint), path: &[u8]) -> bool {
+    match open(rt, path) {
+        Ok(_) => {
+            complain(rt, path, "there is a file of that name");
+            false
+        }
+        Err(e) => {
+            let free = e.kind() == ErrorKind::NotFound;
+            if !free {
+                fail(rt, path, &e);
+            }
+            free
+        }
     }
-    if os::errno() != libc::ENOENT {
-        os::fail(path);
-        return false;
-    }
-    true
 }
 
 // Room for the largest image, and a byte more to tell what is longer.
@@ -249,25 +353,34 @@ pub fn blank() -> [u8; Params::LARGEST_IMAGE + 1]
     [0u8; Params::LARGEST_IMAGE + 1]
 }
 
+// Whether the program has an argument of that number.
+fn has_argument(rt: &impl Env, i: usize) -> bool {
+    match rt.arg(i, &mut []) {
+        Ok(_) => true,
+        Err(FillError::TooLong) => true,
+        Err(FillError::NotPresent) => false,
+    }
+}
+
 // Puts the program's arguments into a line, with a 0 between two; nothing where they are too long.
-pub fn gather(line: &mut [u8]) -> Taken
+pub fn gather(rt: &impl Env, line: &mut [u8]) -> Taken
     ensures { Within line.new result }
 {
-    let count = os::arg_count();
     let mut n: usize = 0;
-    let mut i: usize = 1;
-    while i < count {
-        n += os::arg(i, &mut line[n..]);
-        if os::errno() != 0 {
-            return Taken::Nothing;
+    for i in 1..usize::MAX {
+        if !has_argument(rt, i) {
+            return Taken::Bytes(n);
         }
-        i += 1;
-        if i < count {
+        if i > 1 {
             if n >= line.len() {
                 return Taken::Nothing;
             }
             line[n] = 0;
             n += 1;
+        }
+        match rt.arg(i, &mut line[n..]) {
+            Ok(more) => n += more,
+            Err(_) => return Taken::Nothing,
         }
     }
     Taken::Bytes(n)
