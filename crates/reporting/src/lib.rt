@@ -1,8 +1,9 @@
 // The report of an image: what it is, the revision of each data column, each parity right or wrong.
-// It is put together in a buffer and written by one call.
+// It is put together in a buffer and written at once.
 #![tactic(auto)]
 
-ghost use Rattle.std.specs.Prelude.{◌+◌, ◌*◌, ◌<◌, ◌≤◌, length};
+ghost use Rattle.std.specs.Prelude.{◌≡◌, ◌+◌, ◌*◌, ◌<◌, ◌≤◌, length, take, IfOk, IfSome, OnOk};
+ghost use Rattle.std.specs.Io.KnownBytes.{Appends};
 ghost use Rattle.stripe.specs.Reading.{Image};
 ghost use Rattle.texts.specs.Text.{Put, Holds};
 ghost use Rattle.reporting.specs.Inner.{line_room, report_room, is_clear};
@@ -10,6 +11,8 @@ ghost use Rattle.reporting.specs.Report.{refused_line, stripe_line, lines, data_
 
 use parity::Checkup;
 use refusal::Refusal;
+use std::io;
+use std::io::{Read, Write};
 use stripe::{Params, Reading};
 use texts::{put, put_last, put_last_pair, put_number};
 
@@ -127,18 +130,41 @@ fn put_report(out: &mut [u8], input: &[u8]) -> usize
     put_lines(out, input)
 }
 
-// Writes the report of an image, or its refusal.
-pub fn describe(image: &[u8]) {
+// Writes the report of an image, or its refusal, on standard output.
+pub fn describe(rt: &impl Print, image: &[u8]) -> io::Result<()> {
     let mut out = [0u8; ROOM];
     let n = put_lines(&mut out, image);
-    io::write_all(1, &out[0..n]);
+    rt.write_all(&out[0..n])
 }
 
-// Writes the report of what a descriptor gives; one byte above the longest tells LONG.
-pub fn report(fd: i32) {
-    let mut input = [0u8; LONGEST + 1];
-    let n = io::read_full(fd, &mut input);
+// Reads until a buffer is full or the input ends; how many bytes then stand at its start.
+fn read_front<R: Read>(input: &mut R, buf: &mut [u8]) -> io::Result<usize>
+    ensures within { IfOk result (λ n. n ≤ length buf.new) }
+    ensures front { IfOk result (λ n. IfSome (R.remaining input.old) (λ s. take n buf.new ≡ take (length buf.new) s)) }
+{
+    let mut done: usize = 0;
+    while done < buf.len() {
+        let n = input.read(&mut buf[done..])?;
+        if n == 0 {
+            break;
+        }
+        done += n;
+    }
+    Ok(done)
+}
+
+// Writes the report of what a reader gives; one byte above the longest tells LONG.
+pub fn write_report<R: Read, W: Write>(input: &mut R, output: &mut W) -> io::Result<()>
+    ensures { OnOk result (IfSome (R.remaining input.old) (λ s. Appends (W.contents output.old) (W.contents output.new) (report_of s))) }
+{
+    let mut front = [0u8; LONGEST + 1];
+    let n = read_front(input, &mut front)?;
     let mut out = [0u8; ROOM];
-    let m = put_report(&mut out, &input[..n]);
-    io::write_all(1, &out[0..m]);
+    let m = put_report(&mut out, &front[..n]);
+    output.write_all(&out[..m])
+}
+
+// The same on standard output.
+pub fn report(rt: &impl Print, input: &mut impl Read) -> io::Result<()> {
+    write_report(input, &mut io::writer(rt))
 }
