@@ -11,7 +11,7 @@ use Rattle.laws.proofs.Patch.{patch_all, patch_end, patch_front}
 use Rattle.laws.proofs.Tab.{map_at}
 use Rattle.laws.specs.Choose.{choose}
 use Rattle.laws.specs.Patch.{Patched}
-use Rattle.algebra.specs.Recovery.{Rising, with}
+use Rattle.algebra.specs.Recovery.{Rising}
 use Rattle.stripe.specs.Layout.{data_at, parity_at}
 use Rattle.stripe.specs.declared.Params.{Params}
 use Rattle.pattern.proofs.Count.{consulted_rising, present_rising, rising_at}

@@ -1,0 +1,19 @@
+-- `recovery::clear` meets its contract.
+-- Assumes nothing.
+use native.Mathlib.Omega.{arith}
+use lib.ListN.{length-set}
+use Rattle.laws.proofs.Patch.{patch_none}
+use Rattle.recovery.proofs.Solving.{clear_more, clear_end}
+use Rattle.recovery.proofs.clear.Goals as goal
+
+pub loop-i-init : goal.loop-i-init
+loop-i-init c = (omega arith, patch_none _ _ _)
+
+pub loop-i-smaller : goal.loop-i-smaller
+loop-i-smaller c = simp length-set (omega arith)
+
+pub loop-i-preserved : goal.loop-i-preserved
+loop-i-preserved c = (simp length-set (omega arith), search clear_more)
+
+pub returns : goal.returns
+returns c = search clear_end

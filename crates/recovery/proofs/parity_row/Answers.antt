@@ -1,0 +1,14 @@
+-- `recovery::parity_row` meets its contract.
+-- Assumes nothing.
+use borrow.Author.Rules.{rules}
+use Rattle.recovery.proofs.Solving.{lost_direct, inverses_system, composed_solved}
+use Rattle.recovery.proofs.parity_row.Goals as goal
+
+pub add_inverses-requires : goal.add_inverses-requires
+add_inverses-requires c = (search rules, search lost_direct)
+
+pub solve-requires : goal.solve-requires
+solve-requires c = (search rules, search inverses_system)
+
+pub returns : goal.returns
+returns c = search composed_solved
