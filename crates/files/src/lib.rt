@@ -59,6 +59,13 @@ pub fn fail(rt: &impl Eprint, what: &[u8], e: &Error) {
     complain(rt, what, reason(e, &mut text));
 }
 
+// The same where standard output could not be written.
+pub fn check_output(rt: &impl Eprint, outcome: io::Result<()>) {
+    if let Err(e) = outcome {
+        fail(rt, b"standard output", &e);
+    }
+}
+
 // A path as the library takes it, which is UTF-8.
 fn path_text(path: &[u8]) -> io::Result<&str> {
     match str::from_utf8(path) {
