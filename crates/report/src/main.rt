@@ -1,6 +1,8 @@
 #![tactic(auto)]
 
+use std::io;
+
 // The report of the image on standard input.
-fn main() {
-    reporting::report(0);
+fn main(rt: HostRuntime) -> io::Result<()> {
+    reporting::report(&rt, &mut rt.stdin())
 }
