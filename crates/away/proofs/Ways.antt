@@ -7,7 +7,7 @@ use mathlib.Core.Path.{◌≡◌, sym, ap, ◌∙◌}
 use native.Mathlib.Omega.{arith}
 use lib.Dec.{ltb, ltb→lt}
 use lib.ListN.{length}
-use borrow.Author.Tests.{le-ltb, lt-ltb, ne_eqb, eq-eqb, not-false, not-true}
+use borrow.Author.Tests.{le-ltb, lt-ltb, ne_eqb, eq-eqb}
 use Rattle.laws.proofs.Choose.{true_T, and_right}
 use Rattle.laws.specs.Left.{Leaves}
 use Rattle.refusal.specs.declared.Refusal.{Refusal}
@@ -47,15 +47,15 @@ module _ (s v : List ℕ) (m i t b : ℕ) (w : Reading) (e : w ≡ read_of s) wh
     sound = ap (away_read s m i t b v) (sym e ∙ f)
 
     module _ (x : Bool) (c : x ≡ (pattern_fits q m && ltb i q.k)) where
-      pub no_column : not x ≡ true → Leaves (away_of s m i t b v) (Refused Column) s
+      pub no_column : x ≡ false → Leaves (away_of s m i t b v) (Refused Column) s
       unfolding away_sound
       no_column h =
-          let z : (pattern_fits q m && ltb i q.k) ≡ false = sym c ∙ not-true x h in
+          let z : (pattern_fits q m && ltb i q.k) ≡ false = sym c ∙ h in
           leaves_is (away_of s m i t b v) (record { answer = Refused Column; image = s }) (sound ∙ rw z)
 
-      module _ (h : not x ≡ false) where
+      module _ (h : x ≡ true) where
         within : (pattern_fits q m && ltb i q.k) ≡ true
-        within = sym c ∙ not-false x h
+        within = sym c ∙ h
 
         pub no_row : q.p - 1 ≤ t → Leaves (away_of s m i t b v) (Refused Row) s
         unfolding away_sound
@@ -67,15 +67,15 @@ module _ (s v : List ℕ) (m i t b : ℕ) (w : Reading) (e : w ≡ read_of s) wh
           no_width k = leaves_is (away_of s m i t b v) (record { answer = Refused Width; image = s }) (sound ∙ rw (within, lt-ltb t (rows q) g, ne_eqb (length v) q.b k))
 
           module _ (k : length v ≡ q.b) (y : Bool) (d : y ≡ few_lost q m) where
-            pub no_few : not y ≡ true → Leaves (away_of s m i t b v) (Refused Many) s
+            pub no_few : y ≡ false → Leaves (away_of s m i t b v) (Refused Many) s
             unfolding away_sound
             no_few j =
-                let z : few_lost q m ≡ false = sym d ∙ not-true y j in
+                let z : few_lost q m ≡ false = sym d ∙ j in
                 leaves_is (away_of s m i t b v) (record { answer = Refused Many; image = s }) (sound ∙ rw (within, lt-ltb t (rows q) g, eq-eqb (length v) q.b k, z))
 
-            module _ (j : not y ≡ false) where
+            module _ (j : y ≡ true) where
               few : few_lost q m ≡ true
-              few = sym d ∙ not-false y j
+              few = sym d ∙ j
 
               pub sound_left : (x : Written) (u : List ℕ) → Leaves (away_judged s q m i t b v (judged (revision_of s i) b)) x u → Leaves (away_of s m i t b v) x u
               unfolding away_sound
@@ -99,9 +99,9 @@ module _ (s v : List ℕ) (q : Params) (m i t b : ℕ) (y : Age) (r : y ≡ judg
 pub read_target : (s v : List ℕ) (i t : ℕ) (q : Params) (w : Reading) → w ≡ Stripe q → w ≡ read_of s → i < q.k → t < q.p - 1 → length v ≡ q.b → Target s q i t v
 read_target s v i t q w f e h g k = record { accepted = read_image s q w e f; column = h; row = g; width = k }
 
-pub within_column : (q : Params) (m i : ℕ) (x : Bool) → x ≡ (pattern_fits q m && ltb i q.k) → not x ≡ false → i < q.k
+pub within_column : (q : Params) (m i : ℕ) (x : Bool) → x ≡ (pattern_fits q m && ltb i q.k) → x ≡ true → i < q.k
 within_column q m i x c h =
-    ltb→lt i q.k (and_right (pattern_fits q m) (ltb i q.k) (true_T (pattern_fits q m && ltb i q.k) (sym c ∙ not-false x h)))
+    ltb→lt i q.k (and_right (pattern_fits q m) (ltb i q.k) (true_T (pattern_fits q m && ltb i q.k) (sym c ∙ h)))
 
-pub few_told : (q : Params) (m : ℕ) (y : Bool) → y ≡ few_lost q m → not y ≡ false → few_lost q m ≡ true
-few_told q m y d j = sym d ∙ not-false y j
+pub few_told : (q : Params) (m : ℕ) (y : Bool) → y ≡ few_lost q m → y ≡ true → few_lost q m ≡ true
+few_told q m y d j = sym d ∙ j
