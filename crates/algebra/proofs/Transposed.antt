@@ -27,7 +27,7 @@ use Rattle.algebra.proofs.Solves.{sum_one, all_periodic, all_even, unit_on, unit
 use Rattle.algebra.proofs.Stored.{decode_good, length_decode}
 use Rattle.algebra.proofs.Word.{lane_of_zero, lane_of_periodic, lane_of_digit, lane_of_at, pack_lane_of}
 use Rattle.algebra.proofs.Words.{over_even, inverse_is}
-use Rattle.algebra.specs.Cauchy.{Off, Distinct, Cross, row}
+use Rattle.algebra.specs.Cauchy.{Off, Distinct, Cross}
 use Rattle.algebra.specs.Code.{All, none, decode}
 use Rattle.algebra.specs.Lane.{Even, act, Apart}
 use Rattle.algebra.specs.Prime.{odd_prime}

@@ -18,7 +18,6 @@ use Rattle.laws.specs.Xor.{◌⊕◌}
 use Rattle.algebra.specs.Word.{element}
 use Rattle.refusal.specs.declared.Refusal.{Refusal}
 use Rattle.refusal.specs.declared.Refusal.TheVariants.{Cut, Tail, Count, Prime, Shape, Strip, Width, Column, Row, Stale, Ahead, Many, Room, Exponent, Foreign, Twice, Element as NotElement}
-use Rattle.refusal.specs.declared.Refusal.TheVariants as Refusal
 use Rattle.refusal.specs.declared.Outcome.TheVariants.{Refused as Undone}
 use Rattle.refusal.specs.Number.{number_of}
 use Rattle.stripe.specs.declared.Params.{Params}

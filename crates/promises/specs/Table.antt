@@ -1,7 +1,7 @@
 -- "Examples on the bench": P1 to P13 as one table. A row has what the definition that a call's contract cites gives, by document 01's numbers, and what
 -- document 01 says. An answer is its refusal number (0 where there is none), then its values.
 -- Assumes nothing.
-use Rattle.std.specs.Prelude.{ℕ, ◌+◌, List, [], ◌∷◌, ◌++◌, map, replicate}
+use Rattle.std.specs.Prelude.{ℕ, List, [], ◌∷◌, ◌++◌, map, replicate}
 use Rattle.laws.specs.Part.{part}
 use Rattle.laws.specs.Left.{Left}
 use Rattle.laws.specs.Number.{put32}
