@@ -1,7 +1,7 @@
 /*
  * Stripes of the Cauchy MDS array code C(k, r, p): make, check, write, rebuild; and files of single columns: export, import.
  *
- * Link with libairsaffron.a (x86-64), which `rt staticlib airsaffron` writes to target/staticlib. It keeps no state, allocates
+ * Link with libairsaffron.a (x86-64), which `rt lib` in crates/airsaffron writes to its folder out. It keeps no state, allocates
  * nothing and calls nothing but memcpy and memset.
  *
  * A stripe is k data columns (numbers 0 to k-1) and r parity columns (k to k+r-1) of p-1 strips (rows 0 to p-2) of B bytes. Its
