@@ -7,6 +7,7 @@ use answers::Answer;
 use files::Taken;
 use parity::Checkup;
 use refusal::Outcome;
+use std::rt::Files;
 use stripe::{Checked, Params};
 
 // An image, or a column's file, that a command made or changed in its buffer: the answer, and its length.
@@ -55,20 +56,28 @@ pub fn check(image: &[u8]) -> Answer {
 }
 
 // show: the bytes of a strip, restored first if its column is lost.
-pub fn show(image: &[u8], lost: u64, column: usize, row: usize) -> Answer {
+pub fn show(
+    rt: &(impl Print + Eprint),
+    image: &[u8],
+    lost: u64,
+    column: usize,
+    row: usize,
+) -> Answer {
     let mut scratch = [0u8; Params::LARGEST_STRIP];
     let outcome = rebuild::restore(image, lost, column, row, &mut scratch);
     if let Outcome::Refused(e) = outcome {
         return Answer::Refused(e);
     }
-    if !io::write_all(1, rebuild::show(image, lost, column, row, &scratch)) {
-        os::fail(b"standard output");
-    }
+    files::check_output(
+        rt,
+        rt.write_all(rebuild::show(image, lost, column, row, &scratch)),
+    );
     Answer::Said
 }
 
 // make: the image of a file's data.
 pub fn make(
+    rt: &(impl Files + Eprint),
     p: usize,
     k: usize,
     r: usize,
@@ -80,7 +89,7 @@ pub fn make(
     requires { 1874176 ≤ length image.old }
     ensures { result.length ≤ length image.new }
 {
-    let Taken::Bytes(m) = files::take(from, other) else {
+    let Taken::Bytes(m) = files::take(rt, from, other) else {
         return nothing();
     };
     let n = room(p, k, r, b);
@@ -92,10 +101,10 @@ pub fn make(
 }
 
 // refill: all parity anew.
-pub fn refill(path: &[u8], image: &mut [u8]) -> Changed
+pub fn refill(rt: &(impl Files + Eprint), path: &[u8], image: &mut [u8]) -> Changed
     ensures { result.length ≤ length image.new }
 {
-    let Taken::Bytes(n) = files::take(path, image) else {
+    let Taken::Bytes(n) = files::take(rt, path, image) else {
         return nothing();
     };
     let outcome = parity::refill(&mut image[0..n]);
@@ -106,10 +115,10 @@ pub fn refill(path: &[u8], image: &mut [u8]) -> Changed
 }
 
 // rebuild: the lost columns from the others.
-pub fn rebuild_lost(lost: u64, path: &[u8], image: &mut [u8]) -> Changed
+pub fn rebuild_lost(rt: &(impl Files + Eprint), lost: u64, path: &[u8], image: &mut [u8]) -> Changed
     ensures { result.length ≤ length image.new }
 {
-    let Taken::Bytes(n) = files::take(path, image) else {
+    let Taken::Bytes(n) = files::take(rt, path, image) else {
         return nothing();
     };
     let outcome = rebuild::rebuild(&mut image[0..n], lost);
