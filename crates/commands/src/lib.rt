@@ -9,6 +9,7 @@ use answers::Answer;
 use columns::{Imported, Measured};
 use files::Taken;
 use images::Changed;
+use std::rt::{Env, Files};
 use stripe::{Params, Reading};
 use words::Command;
 use write::Written;
@@ -20,10 +21,8 @@ const FILES_ROOM: usize = columns::LARGEST_FILES + column_file::CARRIED_AT;
 const LINE_ROOM: usize = (Params::LARGEST_PRIME + 2) * 4096;
 
 // Writes the line of an answer.
-fn tell(answer: Answer) {
-    if !answers::say(answer) {
-        os::fail(b"standard output");
-    }
+fn tell(rt: &(impl Print + Eprint), answer: Answer) {
+    files::check_output(rt, answers::say(rt, answer));
 }
 
 // Room for the other files of a command: data, an image that is only read, or column files.
@@ -34,30 +33,35 @@ fn blank_files() -> [u8; FILES_ROOM]
 }
 
 // report: the lines of the report program.
-fn report(image: &[u8]) -> Answer {
+fn report(rt: &(impl Print + Eprint), image: &[u8]) -> Answer {
     let reading = stripe::read(image);
     let Reading::Stripe(_) = reading else {
         return Answer::Refused(reading.refusal());
     };
-    reporting::describe(image);
+    files::check_output(rt, reporting::describe(rt, image));
     Answer::Said
 }
 
 // The commands that only look at an image.
-fn view_by(command: Command, image: &[u8]) -> Answer {
+fn view_by(rt: &(impl Print + Eprint), command: Command, image: &[u8]) -> Answer {
     match command {
         Command::Check => images::check(image),
-        Command::Show(lost, column, row) => images::show(image, lost, column, row),
-        _ => report(image),
+        Command::Show(lost, column, row) => images::show(rt, image, lost, column, row),
+        _ => report(rt, image),
     }
 }
 
 // A command that only looks at an image.
-fn view(command: Command, path: &[u8], image: &mut [u8]) -> Answer {
-    let Taken::Bytes(n) = files::take(path, image) else {
+fn view(
+    rt: &(impl Files + Print + Eprint),
+    command: Command,
+    path: &[u8],
+    image: &mut [u8],
+) -> Answer {
+    let Taken::Bytes(n) = files::take(rt, path, image) else {
         return Answer::Said;
     };
-    view_by(command, &image[0..n])
+    view_by(rt, command, &image[0..n])
 }
 
 // The answer of a write.
@@ -71,6 +75,7 @@ fn accepted(written: Written) -> Answer {
 
 // write: a file's strip against a revision, while columns are lost or not. Of a file that is too long a byte too many is taken.
 fn write_strip(
+    rt: &(impl Files + Eprint),
     column: usize,
     row: usize,
     base: u32,
@@ -82,10 +87,10 @@ fn write_strip(
     ensures { result.length ≤ length image.new }
 {
     let mut strip = [0u8; Params::LARGEST_STRIP + 1];
-    let Taken::Bytes(m) = files::take(from, &mut strip) else {
+    let Taken::Bytes(m) = files::take(rt, from, &mut strip) else {
         return images::nothing();
     };
-    let Taken::Bytes(n) = files::take(path, image) else {
+    let Taken::Bytes(n) = files::take(rt, path, image) else {
         return images::nothing();
     };
     let written = away::write(&mut image[0..n], lost, column, row, base, &strip[0..m]);
@@ -106,11 +111,17 @@ fn measured_room(measured: Measured) -> usize
 }
 
 // export: the file of one column of an image.
-fn export(column: usize, from: &[u8], file: &mut [u8], image: &mut [u8]) -> Changed
+fn export(
+    rt: &(impl Files + Eprint),
+    column: usize,
+    from: &[u8],
+    file: &mut [u8],
+    image: &mut [u8],
+) -> Changed
     requires { 1874176 ≤ length file.old }
     ensures { result.length ≤ length file.new }
 {
-    let Taken::Bytes(m) = files::take(from, image) else {
+    let Taken::Bytes(m) = files::take(rt, from, image) else {
         return images::nothing();
     };
     let n = measured_room(columns::file_length(&image[0..m], column));
@@ -130,11 +141,17 @@ fn absent(imported: Imported) -> Answer {
 }
 
 // import: the image of column files.
-fn import(line: &[u8], mark: u8, image: &mut [u8], other: &mut [u8]) -> Changed
+fn import(
+    rt: &(impl Files + Eprint),
+    line: &[u8],
+    mark: u8,
+    image: &mut [u8],
+    other: &mut [u8],
+) -> Changed
     requires { 1874176 ≤ length image.old }
     ensures { result.length ≤ length image.new }
 {
-    let Taken::Bytes(m) = files::take_each(line, mark, 2, other) else {
+    let Taken::Bytes(m) = files::take_each(rt, line, mark, 2, other) else {
         return images::nothing();
     };
     let n = measured_room(columns::files_length(&other[0..m]));
@@ -172,6 +189,7 @@ fn from_at(command: Command) -> usize {
 
 // The commands that make or change a file, in its buffer.
 fn change_by(
+    rt: &(impl Files + Eprint),
     command: Command,
     line: &[u8],
     mark: u8,
@@ -182,24 +200,25 @@ fn change_by(
     requires { 1874176 ≤ length image.old }
     ensures { result.length ≤ length image.new }
 {
-    if is_making(command) && !files::is_free(path) {
+    if is_making(command) && !files::is_free(rt, path) {
         return images::nothing();
     }
     let from = words::word(line, mark, from_at(command));
     match command {
-        Command::Make(p, k, r, b) => images::make(p, k, r, b, from, image, other),
+        Command::Make(p, k, r, b) => images::make(rt, p, k, r, b, from, image, other),
         Command::Write(column, row, base, lost) => {
-            write_strip(column, row, base, lost, from, path, image)
+            write_strip(rt, column, row, base, lost, from, path, image)
         }
-        Command::Rebuild(lost) => images::rebuild_lost(lost, path, image),
-        Command::Export(column) => export(column, from, image, other),
-        Command::Import => import(line, mark, image, other),
-        _ => images::refill(path, image),
+        Command::Rebuild(lost) => images::rebuild_lost(rt, lost, path, image),
+        Command::Export(column) => export(rt, column, from, image, other),
+        Command::Import => import(rt, line, mark, image, other),
+        _ => images::refill(rt, path, image),
     }
 }
 
 // Makes the new file, which keeps others from changing the image at the same time, then changes the image and keeps it.
 fn change_beside(
+    rt: &(impl Files + Eprint),
     command: Command,
     line: &[u8],
     mark: u8,
@@ -210,21 +229,22 @@ fn change_beside(
 ) -> Answer
     requires { 1874176 ≤ length image.old }
 {
-    let fd = os::create(new);
-    if fd < 0 {
-        os::fail(new);
-        return Answer::Said;
-    }
-    let changed = change_by(command, line, mark, path, image, other);
+    let mut file = match files::create(rt, new) {
+        Ok(file) => file,
+        Err(e) => {
+            files::fail(rt, new, &e);
+            return Answer::Said;
+        }
+    };
+    let changed = change_by(rt, command, line, mark, path, image, other);
     let answer = changed.answer;
     let n = changed.length;
-    let kept = files::keep(answer, fd, path, new, &image[0..n]);
-    libc::close(fd);
-    kept
+    files::keep(rt, answer, &mut file, path, new, &image[0..n])
 }
 
 // A command that changes an image.
 fn change(
+    rt: &(impl Files + Eprint),
     command: Command,
     line: &[u8],
     mark: u8,
@@ -234,23 +254,22 @@ fn change(
 ) -> Answer
     requires { 1874176 ≤ length image.old }
 {
-    if files::is_link(path) {
-        files::complain(path, b": a link; name the file that it leads to\n");
+    if files::is_link(rt, path) {
+        files::complain(rt, path, "a link; name the file that it leads to");
         return Answer::Said;
     }
-    let mut name = io::buffer();
+    let mut name = [0u8; 4096];
     let n = files::name_new(path, &mut name);
     if n == 0 {
-        files::complain(path, b": too long a name\n");
+        files::complain(rt, path, "too long a name");
         return Answer::Said;
     }
-    change_beside(command, line, mark, path, &name[0..n], image, other)
+    change_beside(rt, command, line, mark, path, &name[0..n], image, other)
 }
 
 // What there is to know of the commands.
-fn help() -> Answer {
-    io::write_all(
-        1,
+fn help(rt: &(impl Print + Eprint)) -> Answer {
+    let lines = rt.write_all(
         b"depot make P K R B DATA IMAGE                    a new image of the data, revisions 0
 depot check IMAGE                                the word of wrong parities; 0: all right
 depot refill IMAGE                               all parity anew from the data
@@ -266,14 +285,14 @@ refused 10 STALE 3: BASE is three notes behind the column's revision; refused 11
 refused 17 UNCLEAR 0: they lie exactly 2^31 apart, so that nobody can tell which is newer.
 ",
     );
+    files::check_output(rt, lines);
     Answer::Said
 }
 
 // One line of usage, on standard error.
-fn usage() -> Answer {
-    io::write_all(
-        2,
-        b"usage: depot make P K R B DATA IMAGE | check IMAGE | refill IMAGE | write IMAGE COLUMN ROW BASE STRIP [LOST] | rebuild IMAGE LOST | show IMAGE LOST COLUMN ROW | export IMAGE COLUMN FILE | import IMAGE FILE.. | report IMAGE | help\n",
+fn usage(rt: &impl Eprint) -> Answer {
+    let _ = rt.eprintln(
+        "usage: depot make P K R B DATA IMAGE | check IMAGE | refill IMAGE | write IMAGE COLUMN ROW BASE STRIP [LOST] | rebuild IMAGE LOST | show IMAGE LOST COLUMN ROW | export IMAGE COLUMN FILE | import IMAGE FILE.. | report IMAGE | help",
     );
     Answer::Said
 }
@@ -288,33 +307,50 @@ fn path_at(command: Command) -> usize {
 }
 
 // Does what a command asks, in two buffers.
-fn perform(command: Command, line: &[u8], mark: u8, image: &mut [u8], other: &mut [u8]) -> Answer
+fn perform(
+    rt: &(impl Files + Print + Eprint),
+    command: Command,
+    line: &[u8],
+    mark: u8,
+    image: &mut [u8],
+    other: &mut [u8],
+) -> Answer
     requires { 1874176 ≤ length image.old }
 {
     let path = words::word(line, mark, path_at(command));
     match command {
-        Command::Help => help(),
-        Command::Usage => usage(),
-        Command::Check => view(command, path, image),
-        Command::Report => view(command, path, image),
-        Command::Show(_, _, _) => view(command, path, image),
-        _ => change(command, line, mark, path, image, other),
+        Command::Help => help(rt),
+        Command::Usage => usage(rt),
+        Command::Check => view(rt, command, path, image),
+        Command::Report => view(rt, command, path, image),
+        Command::Show(_, _, _) => view(rt, command, path, image),
+        _ => change(rt, command, line, mark, path, image, other),
     }
 }
 
 // Does what the words of a line ask, and answers.
-pub fn run(line: &[u8], mark: u8) {
+pub fn run(rt: &(impl Files + Print + Eprint), line: &[u8], mark: u8) {
     let mut image = files::blank();
     let mut other = blank_files();
-    tell(perform(words::parse(line, mark), line, mark, &mut image, &mut other));
+    tell(
+        rt,
+        perform(
+            rt,
+            words::parse(line, mark),
+            line,
+            mark,
+            &mut image,
+            &mut other,
+        ),
+    );
 }
 
 // Does what the program's arguments ask.
-pub fn run_arguments() {
+pub fn run_arguments(rt: &(impl Env + Files + Print + Eprint)) {
     let mut line = [0u8; LINE_ROOM];
-    let taken = files::gather(&mut line);
+    let taken = files::gather(rt, &mut line);
     match taken {
-        Taken::Bytes(n) => run(&line[0..n], 0),
-        Taken::Nothing => tell(usage()),
+        Taken::Bytes(n) => run(rt, &line[0..n], 0),
+        Taken::Nothing => tell(rt, usage(rt)),
     }
 }
