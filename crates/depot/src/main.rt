@@ -1,6 +1,6 @@
 #![tactic(auto)]
 
 // The depot's images by command: see commands.
-fn main() {
-    commands::run_arguments();
+fn main(rt: HostRuntime) {
+    commands::run_arguments(&rt);
 }
