@@ -1,13 +1,15 @@
 // The commands on files of data/: each line of a file of cases, and what it answers. Standard error is not seen here; the lines after show what changed.
-// Beside the commands a line may be: same A B, spoil FILE PLACE, hide FILE, lengthen FILE, large FILE.
+// Beside the commands a line may be: same A B, spoil FILE PLACE, hide FILE, lengthen FILE, large FILE. One of these that fails ends the program.
 #![tactic(auto)]
 
-ghost use Rattle.io.specs.Counts.{IsPrefixLen};
-
+use std::fs::{File, OpenOptions, Permissions};
+use std::io::{ErrorKind, Write};
+use std::os::unix::fs::{FileExt, PermissionsExt};
+use std::{fs, io};
 use words::Number;
 
-fn say(text: &[u8]) {
-    io::write_all(1, text);
+fn say(rt: &HostRuntime, text: &[u8]) -> io::Result<()> {
+    rt.write_all(text)
 }
 
 // Word i of a line.
@@ -15,128 +17,121 @@ fn word(line: &[u8], i: usize) -> &[u8] {
     words::word(line, b' ', i)
 }
 
-// Reads a file; says so where it is not there.
-fn read(path: &[u8], buf: &mut [u8; 65536]) -> usize
-    ensures { IsPrefixLen result buf.new }
-{
-    let fd = os::open_read(path);
-    if fd < 0 {
-        say(b"not there: ");
+// A path that is a word of a line.
+fn path(word: &[u8]) -> io::Result<&str> {
+    match str::from_utf8(word) {
+        Ok(text) => Ok(text),
+        Err(_) => Err(io::Error::from(ErrorKind::InvalidInput)),
     }
-    let n = io::read_full(fd, buf);
-    libc::close(fd);
-    n
 }
 
-// Whether two files of up to 65,536 bytes are the same.
-fn compare(a: &[u8], b: &[u8]) {
-    let mut first = io::large_buffer();
-    let mut second = io::large_buffer();
-    let n = read(a, &mut first);
-    let m = read(b, &mut second);
-    if words::same(&first[..n], &second[..m]) {
-        say(b"yes\n");
+// Whether two files are the same.
+fn compare(rt: &HostRuntime, a: &[u8], b: &[u8]) -> io::Result<()> {
+    let first = fs::read(rt, path(a)?)?;
+    let second = fs::read(rt, path(b)?)?;
+    if words::same(&first, &second) {
+        say(rt, b"yes\n")
     } else {
-        say(b"no\n");
+        say(rt, b"no\n")
     }
 }
 
 // Puts 32 strange bytes into a file from a place on.
-fn spoil(path: &[u8], at: u64) {
-    let fd = os::open_update(path);
+fn spoil(rt: &HostRuntime, name: &[u8], at: u64) -> io::Result<()> {
+    let file = OpenOptions::new()
+        .read(true)
+        .write(true)
+        .open(rt, path(name)?)?;
     if at < 65536 {
-        libc::pwrite(fd, &[0xeeu8; 32], at as i64);
+        file.write_all_at(&[0xeeu8; 32], at)?;
     }
-    libc::close(fd);
+    Ok(())
 }
 
 // Makes a file that nobody may read.
-fn hide(path: &[u8]) {
-    let fd = os::create(path);
-    io::write_all(fd, b"hidden\n");
-    libc::fchmod(fd, 0);
-    libc::close(fd);
+fn hide(rt: &HostRuntime, name: &[u8]) -> io::Result<()> {
+    let mut file = File::create_new(rt, path(name)?)?;
+    file.write_all(b"hidden\n")?;
+    file.set_permissions(Permissions::from_mode(0))
 }
 
 // Puts one byte behind the others.
-fn lengthen(path: &[u8]) {
-    let fd = os::open_append(path);
-    io::write_all(fd, b"!");
-    libc::close(fd);
+fn lengthen(rt: &HostRuntime, name: &[u8]) -> io::Result<()> {
+    OpenOptions::new()
+        .append(true)
+        .open(rt, path(name)?)?
+        .write_all(b"!")
 }
 
 // Makes the data of the largest image: 30 times the same 61,440 bytes.
-fn enlarge(path: &[u8]) {
+fn enlarge(rt: &HostRuntime, name: &[u8]) -> io::Result<()> {
     let buf = [0x5au8; 61440];
-    let fd = os::create(path);
-    let mut i: usize = 0;
-    while i < 30 {
-        io::write_all(fd, &buf);
-        i += 1;
+    let mut file = File::create_new(rt, path(name)?)?;
+    for _ in 0..30 {
+        file.write_all(&buf)?;
     }
-    libc::close(fd);
+    Ok(())
 }
 
 // Does what a line asks that is no command; whether it was one of these.
-fn prepare(line: &[u8]) -> bool {
+fn prepare(rt: &HostRuntime, line: &[u8]) -> io::Result<bool> {
     let verb = word(line, 0);
-    let path = word(line, 1);
+    let name = word(line, 1);
     if words::same(verb, b"same") {
-        compare(path, word(line, 2));
-        return true;
+        compare(rt, name, word(line, 2))?;
+        return Ok(true);
     }
     if words::same(verb, b"hide") {
-        hide(path);
-        return true;
+        hide(rt, name)?;
+        return Ok(true);
     }
     if words::same(verb, b"lengthen") {
-        lengthen(path);
-        return true;
+        lengthen(rt, name)?;
+        return Ok(true);
     }
     if words::same(verb, b"large") {
-        enlarge(path);
-        return true;
+        enlarge(rt, name)?;
+        return Ok(true);
     }
-    false
+    Ok(false)
 }
 
 // The same for `spoil`.
-fn prepare_spoiled(line: &[u8]) -> bool {
+fn prepare_spoiled(rt: &HostRuntime, line: &[u8]) -> io::Result<bool> {
     if !words::same(word(line, 0), b"spoil") {
-        return false;
+        return Ok(false);
     }
     if let Number::Value(at) = words::decimal(word(line, 2)) {
-        spoil(word(line, 1), at);
+        spoil(rt, word(line, 1), at)?;
     }
-    true
+    Ok(true)
 }
 
 // A line and its answer.
-fn case(line: &[u8]) {
-    say(b"$ ");
-    say(line);
-    say(b"\n");
-    if prepare(line) {
-        return;
+fn case(rt: &HostRuntime, line: &[u8]) -> io::Result<()> {
+    say(rt, b"$ ")?;
+    say(rt, line)?;
+    say(rt, b"\n")?;
+    if prepare(rt, line)? {
+        return Ok(());
     }
-    if prepare_spoiled(line) {
-        return;
+    if prepare_spoiled(rt, line)? {
+        return Ok(());
     }
-    commands::run(line, b' ');
+    commands::run(rt, line, b' ');
+    Ok(())
 }
 
 // Every line but what stands after the last end of a line.
-fn cases(lines: &[u8]) {
+fn cases(rt: &HostRuntime, lines: &[u8]) -> io::Result<()> {
     let n = words::count(lines, b'\n');
-    let mut i: usize = 1;
-    while i < n {
-        case(words::word(lines, b'\n', i - 1));
-        i += 1;
+    for i in 1..n {
+        case(rt, words::word(lines, b'\n', i - 1))?;
     }
+    Ok(())
 }
 
-fn main() {
-    let mut lines = io::large_buffer();
-    let n = read(b"cases", &mut lines);
-    cases(&lines[..n]);
+fn main(rt: HostRuntime) -> io::Result<()> {
+    let lines = fs::read(&rt, "cases")?;
+    cases(&rt, &lines)
 }
