@@ -2,6 +2,7 @@
 #![tactic(auto)]
 
 use comparing::{Tally, nothing};
+use std::io;
 use telling::{say, tell};
 use total::add;
 
@@ -23,25 +24,32 @@ fn cases_of(group: usize) -> usize {
 
 // A group of drawn cases; refusals are counted on from those of the groups before it.
 fn run_group(
+    rt: &impl Print,
     group: usize,
     before: Tally,
     one: &mut [u8],
     two: &mut [u8],
     room: &mut [u8],
-) -> Tally {
+) -> io::Result<Tally> {
     let t = trials::run(group, cases_of(group), 0, before, one, two, room);
-    telling::say_group(group);
-    tell(t);
-    t
+    telling::say_group(rt, group)?;
+    tell(rt, t)?;
+    Ok(t)
 }
 
 // The first n groups of drawn cases.
-fn run_groups(n: usize, one: &mut [u8], two: &mut [u8], room: &mut [u8]) -> Tally {
+fn run_groups(
+    rt: &impl Print,
+    n: usize,
+    one: &mut [u8],
+    two: &mut [u8],
+    room: &mut [u8],
+) -> io::Result<Tally> {
     let mut t = nothing();
     for group in 0..n {
-        t = run_group(group, t, one, two, room);
+        t = run_group(rt, group, t, one, two, room)?;
     }
-    t
+    Ok(t)
 }
 
 // How many differences a planted slip makes in the first cases of a group.
@@ -72,44 +80,58 @@ fn drawn_differences(
 }
 
 // Plants a slip in the second implementation: the document's examples and drawn cases have to find it, and it has to do what the document says of it.
-fn plant(slip: u64, one: &mut [u8], two: &mut [u8], room: &mut [u8]) {
+fn plant(
+    rt: &impl Print,
+    slip: u64,
+    one: &mut [u8],
+    two: &mut [u8],
+    room: &mut [u8],
+) -> io::Result<()> {
     let documented = documented::slips(nothing(), slip);
     let drawn = drawn_differences(slip, 6, one, two, room);
     telling::tell_slip(
+        rt,
         slip,
         documented.differences,
         drawn,
         documented::said(nothing(), slip),
-    );
+    )
 }
 
 // The self-test: the first n slips, one after the other.
-fn self_test(n: u64, one: &mut [u8], two: &mut [u8], room: &mut [u8]) {
+fn self_test(
+    rt: &impl Print,
+    n: u64,
+    one: &mut [u8],
+    two: &mut [u8],
+    room: &mut [u8],
+) -> io::Result<()> {
     for slip in 0..n {
-        plant(std::num::wrapping_add_u64(slip, 1), one, two, room);
+        plant(rt, std::num::wrapping_add_u64(slip, 1), one, two, room)?;
     }
+    Ok(())
 }
 
 // The document's examples, all groups and the self-test, in lent room.
-fn run(one: &mut [u8], two: &mut [u8], room: &mut [u8]) {
+fn run(rt: &impl Print, one: &mut [u8], two: &mut [u8], room: &mut [u8]) -> io::Result<()> {
     let limits = documented::limits(nothing());
-    say(b"limits");
-    tell(limits);
+    say(rt, b"limits")?;
+    tell(rt, limits)?;
     let slips = documented::slips(nothing(), 0);
-    say(b"slips");
-    tell(slips);
-    let drawn = run_groups(10, one, two, room);
-    telling::tell_refusals(drawn, comparing::REFUSALS_END);
-    self_test(10, one, two, room);
+    say(rt, b"slips")?;
+    tell(rt, slips)?;
+    let drawn = run_groups(rt, 10, one, two, room)?;
+    telling::tell_refusals(rt, drawn, comparing::REFUSALS_END)?;
+    self_test(rt, 10, one, two, room)
 }
 
-fn main() {
+fn main(rt: HostRuntime) -> io::Result<()> {
     let mut one = [0u8; 131072];
     let mut two = [0u8; 131072];
     let mut room = [0u8; 131072];
-    run(&mut one, &mut two, &mut room);
+    run(&rt, &mut one, &mut two, &mut room)?;
     let long = [0u8; 65537];
-    telling::tell_reports(b"right", &documented::example());
-    telling::tell_reports(b"spoiled", &documented::spoiled_example());
-    telling::tell_reports(b"long", &long);
+    telling::tell_reports(&rt, "right", &documented::example())?;
+    telling::tell_reports(&rt, "spoiled", &documented::spoiled_example())?;
+    telling::tell_reports(&rt, "long", &long)
 }
