@@ -1,8 +1,9 @@
 // The files of the depot: taken into a buffer, written, looked at again and put in the place of others; and the program's arguments.
 #![tactic(auto)]
 
-ghost use Rattle.std.specs.Prelude.{◌≡◌, ◌≤◌, length, replicate};
-ghost use Rattle.files.specs.Taken.{Within};
+ghost use Rattle.std.specs.Prelude.{◌≡◌, ◌<◌, ◌≤◌, length, replicate, take, IfSome, IsTrue, OnOk};
+ghost use Rattle.std.specs.Io.KnownBytes.{Appends, Consumes, IsAtEnd};
+ghost use Rattle.files.specs.Taken.{Within, Front};
 
 use answers::Answer;
 use std::env::FillError;
@@ -85,8 +86,9 @@ pub fn create<R: Files>(rt: &R, path: &[u8]) -> io::Result<R::File> {
 }
 
 // Reads on until the buffer is full or the file ends.
-fn fill(rt: &impl Eprint, file: &mut impl Read, path: &[u8], buf: &mut [u8]) -> Taken
-    ensures { Within buf.new result }
+fn fill<R: Read>(rt: &impl Eprint, file: &mut R, path: &[u8], buf: &mut [u8]) -> Taken
+    ensures within { Within buf.new result }
+    ensures front { Front (R.remaining file.old) buf.new result }
 {
     let mut n: usize = 0;
     while n < buf.len() {
@@ -139,25 +141,27 @@ pub fn take_each(
 }
 
 // How many of the next bytes of a file are those of the slice; 0 where they are not, or the file ends.
-fn match_some(file: &mut impl Read, bytes: &[u8]) -> usize
-    ensures { result ≤ length bytes.now }
+fn match_some<R: Read>(file: &mut R, bytes: &[u8]) -> usize
+    ensures within { result ≤ length bytes.now }
+    ensures met { 0 < result → Consumes (R.remaining file.old) (R.remaining file.new) (take result bytes.now) }
 {
     let mut buf = [0u8; 65536];
-    let n = match file.read(&mut buf) {
-        Ok(n) => n,
-        Err(_) => 0,
+    let Ok(n) = file.read(&mut buf) else {
+        return 0;
     };
     if n > bytes.len() {
         return 0;
     }
-    if !words::same(&buf[..n], &bytes[0..n]) {
+    if !words::same(&buf[..n], &bytes[..n]) {
         return 0;
     }
     n
 }
 
 // Whether a file ends here.
-fn is_end(file: &mut impl Read) -> bool {
+fn is_end<R: Read>(file: &mut R) -> bool
+    ensures { IsTrue result → IsAtEnd (R.remaining file.old) }
+{
     let mut one = [0u8; 1];
     match file.read(&mut one) {
         Ok(n) => n == 0,
@@ -166,7 +170,9 @@ fn is_end(file: &mut impl Read) -> bool {
 }
 
 // Whether the rest of a file is these bytes and nothing else.
-fn match_all(file: &mut impl Read, bytes: &[u8]) -> bool {
+fn match_all<R: Read>(file: &mut R, bytes: &[u8]) -> bool
+    ensures { IsTrue result → IfSome (R.remaining file.old) (λ s. bytes.now ≡ s) }
+{
     let mut at: usize = 0;
     while at < bytes.len() {
         let n = match_some(file, &bytes[at..]);
@@ -196,13 +202,17 @@ fn look(rt: &(impl Files + Eprint), path: &[u8], bytes: &[u8]) -> bool {
 }
 
 // Writes the bytes to a new file and syncs it.
-fn write_synced(file: &mut (impl Write + OpenFile), bytes: &[u8]) -> io::Result<()> {
+fn write_synced<W: Write + OpenFile>(file: &mut W, bytes: &[u8]) -> io::Result<()>
+    ensures { OnOk result (Appends (W.contents file.old) (W.contents file.new) bytes.now) }
+{
     file.write_all(bytes)?;
     file.sync_all()
 }
 
 // The same; whether it went well, and why not is said.
-fn store(rt: &impl Eprint, file: &mut (impl Write + OpenFile), path: &[u8], bytes: &[u8]) -> bool {
+fn store<W: Write + OpenFile>(rt: &impl Eprint, file: &mut W, path: &[u8], bytes: &[u8]) -> bool
+    ensures { IsTrue result → Appends (W.contents file.old) (W.contents file.new) bytes.now }
+{
     match write_synced(file, bytes) {
         Ok(()) => true,
         Err(e) => {
