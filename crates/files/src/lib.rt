@@ -335,8 +335,11 @@ pub fn name_new(path: &[u8], name: &mut [u8]) -> usize
     n + 4
 }
 
-// Whether a path names a link: the new file would replace it, and what it leads to would stay as it was.
+// Whether a path names a link: the new file would replace it, and what it leads to would stay as it was. One too long for the new file's name is told as that.
 pub fn is_link(rt: &impl Files, path: &[u8]) -> bool {
+    if path.len() > 4091 {
+        return false;
+    }
     let Ok(text) = path_text(path) else {
         return false;
     };

@@ -1,3 +1,5 @@
+-- `commands::blank_files` meets its contract.
+-- Assumes nothing.
 use mathlib.Core.Path.{refl}
 use Rattle.files.proofs.Laws.{zeros_long}
 use Rattle.commands.proofs.blank_files.Goals as goal

@@ -1,3 +1,5 @@
+-- `depot_cases::read`: what its loop keeps, and that it ends.
+-- Assumes nothing.
 use Rattle.std.proofs.Common.{◌≡◌, ◌≤◌, ◌-◌, length}
 use Rattle.depot_cases.proofs.read.Given as goal
 

@@ -1,3 +1,5 @@
+-- `files::blank` meets its contract.
+-- Assumes nothing.
 use mathlib.Core.Path.{refl}
 use Rattle.files.proofs.Laws.{zeros_long}
 use Rattle.files.proofs.blank.Goals as goal

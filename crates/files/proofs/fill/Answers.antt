@@ -1,3 +1,5 @@
+-- `files::fill` meets its contract.
+-- Assumes nothing.
 use Rattle.std.proofs.Common.{arith}
 use Rattle.files.proofs.Fronts.{front_more}
 use Rattle.files.proofs.fill.Goals as goal

@@ -1,3 +1,5 @@
+-- `files::fill`: what its loop keeps, and that it ends.
+-- Assumes nothing.
 use Rattle.std.proofs.Common.{◌≡◌, ◌≤◌, ◌-◌, length, take}
 use Rattle.std.specs.Io.KnownBytes.{Consumes}
 use Rattle.files.proofs.fill.Given as goal

@@ -1,3 +1,5 @@
+-- `files::folder`: what its loop keeps, and that it ends.
+-- Assumes nothing.
 use Rattle.std.proofs.Common.{◌≤◌, ◌-◌, length}
 use Rattle.files.proofs.folder.Given as goal
 

@@ -1,3 +1,5 @@
+-- `files::match_all` meets its contract.
+-- Assumes nothing.
 use Rattle.std.proofs.Common.{arith}
 use Rattle.files.proofs.Fronts.{met_more}
 use Rattle.files.proofs.match_all.Goals as goal

@@ -1,3 +1,5 @@
+-- `files::match_all`: what its loop keeps, and that it ends.
+-- Assumes nothing.
 use Rattle.std.proofs.Common.{◌≤◌, ◌-◌, length, take}
 use Rattle.std.specs.Io.KnownBytes.{Consumes}
 use Rattle.files.proofs.match_all.Given as goal

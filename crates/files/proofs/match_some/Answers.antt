@@ -1,3 +1,5 @@
+-- `files::match_some` meets its contract.
+-- Assumes nothing.
 use Rattle.std.proofs.Common.{subst, sym, ◌∙◌}
 use Rattle.std.specs.Io.KnownBytes.{Consumes}
 use Rattle.files.proofs.Fronts.{same_is}

@@ -1,3 +1,5 @@
+-- `files::take_each`: what its loop keeps, and that it ends.
+-- Assumes nothing.
 use Rattle.std.proofs.Common.{◌≡◌, ◌≤◌, ◌-◌, length}
 use Rattle.files.proofs.take_each.Given as goal
 

@@ -1,3 +1,5 @@
+-- `images::room` meets its contract.
+-- Assumes nothing.
 use Rattle.stripe.proofs.Frame.{checked_admitted}
 use Rattle.images.proofs.room.Goals as goal
 
