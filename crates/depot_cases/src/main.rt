@@ -32,15 +32,7 @@ fn read(rt: &HostRuntime, name: &[u8], buf: &mut [u8; 65536]) -> io::Result<usiz
     ensures { ReadsAtMost result buf.new }
 {
     let mut file = fs::open(rt, path(name)?)?;
-    let mut n: usize = 0;
-    while n < buf.len() {
-        let more = file.read(&mut buf[n..])?;
-        if more == 0 {
-            break;
-        }
-        n += more;
-    }
-    Ok(n)
+    fronts::read_front(&mut file, buf)
 }
 
 // Whether two files of up to 65,536 bytes are the same.

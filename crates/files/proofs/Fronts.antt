@@ -1,13 +1,11 @@
 -- Laws of what was read and compared, a piece behind the other.
 -- Assumes nothing.
-use Rattle.std.proofs.Common.{◌≡◌, ℕ, ◌+◌, ◌-◌, ◌≤◌, true, ◌&&◌, eqb, List, [], ◌∷◌, ◌++◌, length, take, drop, refl, sym, ap, ◌∙◌, subst, take-add, take_all, length-drop, length-take-le, arith}
+use Rattle.std.proofs.Common.{◌≡◌, ℕ, ◌+◌, ◌-◌, true, ◌&&◌, eqb, List, [], ◌∷◌, ◌++◌, length, take, drop, refl, sym, ap, ◌∙◌, subst, take-add, take_all, length-drop, arith}
 use Rattle.std.proofs.KnownBytes.{Consumes-trans}
-use Rattle.std.proofs.Math.Seq.{take-append-add, take-append-le}
 use Rattle.std.proofs.lemmas.Bool.{false≢true}
 use Rattle.std.specs.Io.KnownBytes.{Consumes}
 use Rattle.std.specs.Prelude.{Option}
 use borrow.Author.Tests.{eqb-true}
-use borrow.Rule.Slice.PartMut.{put_mid, post_of}
 use Rattle.laws.proofs.Choose.{T_true, true_T, and_left, and_right}
 use Rattle.words.specs.Words.{same_bytes}
 
@@ -30,13 +28,3 @@ met_more d n s a b c p q = subst (Consumes a c) (sym (take-add d n s ∙ ap (λ 
   where
     rest : take (length s - d) (drop d s) ≡ drop d s
     rest = take_all (length s - d) (drop d s) (omega (arith, length-drop d s))
-
--- d bytes of the buffer were read, and n more behind them
-pub front_more : (d n : ℕ) (s w : List ℕ) (a b c : Option (List ℕ)) → d ≤ length s → n ≤ length w → Consumes a b (take d s) → Consumes b c (take n w)
-    → Consumes a c (take (d + n) (put_mid d (length s - d) s w))
-front_more d n s w a b c h l p q = subst (Consumes a c) (sym joined) (Consumes-trans a b c (take d s) (take n w) p q)
-  where
-    joined : take (d + n) (put_mid d (length s - d) s w) ≡ take d s ++ take n w
-    joined =
-        ap (λ m. take (m + n) (take d s ++ (w ++ post_of d (length s - d) s))) (sym (length-take-le d s h))
-        ∙ take-append-add (take d s) (w ++ post_of d (length s - d) s) n ∙ ap (λ x. take d s ++ x) (take-append-le n w (post_of d (length s - d) s) l)

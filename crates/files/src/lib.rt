@@ -90,18 +90,13 @@ fn fill<R: Read>(rt: &impl Eprint, file: &mut R, path: &[u8], buf: &mut [u8]) ->
     ensures within { Within buf.new result }
     ensures front { Front (R.remaining file.old) buf.new result }
 {
-    let mut n: usize = 0;
-    while n < buf.len() {
-        match file.read(&mut buf[n..]) {
-            Ok(0) => return Taken::Bytes(n),
-            Ok(more) => n += more,
-            Err(e) => {
-                fail(rt, path, &e);
-                return Taken::Nothing;
-            }
+    match fronts::read_front(file, buf) {
+        Ok(n) => Taken::Bytes(n),
+        Err(e) => {
+            fail(rt, path, &e);
+            Taken::Nothing
         }
     }
-    Taken::Bytes(n)
 }
 
 // Takes a file, as much of it as the buffer holds.

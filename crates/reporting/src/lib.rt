@@ -137,28 +137,12 @@ pub fn describe(rt: &impl Print, image: &[u8]) -> io::Result<()> {
     rt.write_all(&out[0..n])
 }
 
-// Reads until a buffer is full or the input ends; how many bytes then stand at its start.
-fn read_front<R: Read>(input: &mut R, buf: &mut [u8]) -> io::Result<usize>
-    ensures within { IfOk result (λ n. n ≤ length buf.new) }
-    ensures front { IfOk result (λ n. IfSome (R.remaining input.old) (λ s. take n buf.new ≡ take (length buf.new) s)) }
-{
-    let mut done: usize = 0;
-    while done < buf.len() {
-        let n = input.read(&mut buf[done..])?;
-        if n == 0 {
-            break;
-        }
-        done += n;
-    }
-    Ok(done)
-}
-
 // Writes the report of what a reader gives; one byte above the longest tells LONG.
 pub fn write_report<R: Read, W: Write>(input: &mut R, output: &mut W) -> io::Result<()>
     ensures { OnOk result (IfSome (R.remaining input.old) (λ s. Appends (W.contents output.old) (W.contents output.new) (report_of s))) }
 {
     let mut front = [0u8; LONGEST + 1];
-    let n = read_front(input, &mut front)?;
+    let n = fronts::read_front(input, &mut front)?;
     let mut out = [0u8; ROOM];
     let m = put_report(&mut out, &front[..n]);
     output.write_all(&out[..m])

@@ -1,8 +1,8 @@
--- `reporting::read_front` meets its contract.
+-- `fronts::read_front` meets its contract.
 -- Assumes nothing.
 use Rattle.std.proofs.Common.{length, ◌-◌, ◌≤◌, take}
 use Rattle.std.specs.Io.KnownBytes.{Consumes}
-use Rattle.reporting.proofs.read_front.Given as goal
+use Rattle.fronts.proofs.read_front.Given as goal
 
 abbrev pub invariant-loop-done : goal.invariant-loop-done
 invariant-loop-done g l = (l.done ≤ length l.buf) × Consumes (g.R.Read.remaining l.initial.input) (g.R.Read.remaining l.input) (take l.done l.buf)
