@@ -1,28 +1,30 @@
 -- Laws of an answer's line.
 -- Assumes nothing.
-use Prim.Native.Nat.{ℕ, ◌+◌, ◌≤◌}
-use mathlib.Core.List.{List}
-use mathlib.Core.Path.{◌≡◌, refl, sym, subst}
-use native.Mathlib.Omega.{arith}
-use Rattle.texts.proofs.Putting.{put_holds, put_three}
-use Rattle.texts.specs.Text.{Put, Holds, bytes, line_end}
-use Rattle.answers.specs.Line.{line_of}
-use Rattle.answers.specs.List.{list_of}
-use Rattle.answers.specs.declared.Answer.{Answer}
-use Rattle.answers.specs.declared.Answer.TheVariants.{Said, Absent}
+use Prim.Native.Nat.{ℕ, ◌<◌, ◌≤◌, ◌^◌}
+use mathlib.Core.List.{List, [], ◌∷◌, ◌++◌, append_assoc}
+use mathlib.Core.Path.{◌≡◌}
+use lib.ListN.{get_or-eq_default}
+use Rattle.refusal.specs.Number.{number_of}
+use Rattle.refusal.specs.declared.Refusal.{Refusal}
+use Rattle.revision.specs.Revision.{age_number, age_distance}
+use Rattle.revision.specs.declared.Age.{Age}
+use Rattle.std.specs.Fmt.{decimal}
+use Rattle.texts.proofs.Digits.{decimal_text}
+use Rattle.texts.specs.Text.{bytes, line_end}
+use Rattle.words.specs.Words.{parts, before_first}
+use Rattle.answers.specs.Line.{names, named, line_of}
+use Rattle.answers.specs.declared.Answer.TheVariants.{Aged, Refused}
 
--- the start of a refusal's line ends before place 38
-pub start_end : (s t : List ℕ) (x y z : ℕ) → Put s t 0 x (bytes "refused") → y ≤ x + 21 → z ≤ y + 9 → z ≤ 37
-start_end s t x y z p h k = omega (arith, p.place)
+-- no number above 19 has a name
+pub unnamed : (n : ℕ) → 20 ≤ n → named n ≡ []
+unfolding parts before_first
+unnamed n h = get_or-eq_default (parts 32 names) [] h
 
--- the columns of a pattern between the word before them and the line's end
-pub absent_line : (w : ℕ) (s t u r : List ℕ) (x y z : ℕ) → Put s t 0 x (bytes "done ") → Put t u x y (list_of w) → Put u r y z line_end → Put s r 0 z (line_of (Absent w))
-absent_line w s t u r x y z p q o = put_three s t u r 0 x y z (bytes "done ") (list_of w) line_end p q o
+-- what is written of a refusal: m is its number, and v the name of that
+module _ (m : ℕ) (v : List ℕ) (small : m < 2 ^ 64) (name : v ≡ named m) where
+  pub refused_text : (e : Refusal) → m ≡ number_of e → bytes "refused " ++ (decimal m ++ (32 ∷ (v ++ line_end))) ≡ line_of (Refused e)
+  refused_text e f = rw (name, decimal_text m small, f) (simp append_assoc)
 
--- nothing is put
-pub nothing_told : (s : List ℕ) (a : Answer) → a ≡ Said → Holds s 0 (line_of a)
-nothing_told s a e = subst (λ (b : Answer). Holds s 0 (line_of b)) (sym e) (record { within = omega arith; front = refl })
-
--- an answer that a test has told
-pub line_told : (s t : List ℕ) (x : ℕ) (a a' : Answer) → a ≡ a' → Put s t 0 x (line_of a') → Holds t x (line_of a)
-line_told s t x a a' g p = subst (λ (b : Answer). Holds t x (line_of b)) (sym g) (put_holds s t x (line_of a') p)
+  pub aged_text : (g : Age) (d : ℕ) → m ≡ age_number g → d < 2 ^ 64 → d ≡ age_distance g
+      → bytes "refused " ++ (decimal m ++ (32 ∷ (v ++ (32 ∷ (decimal d ++ line_end))))) ≡ line_of (Aged g)
+  aged_text g d f l k = rw (name, decimal_text m small, decimal_text d l, f, k) (simp append_assoc)

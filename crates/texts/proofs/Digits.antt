@@ -1,9 +1,9 @@
 -- The digits of a number: how many there are.
 -- Assumes nothing.
-use Prim.Native.Nat.{ℕ, zero, suc, ◌+◌, ◌-◌, ◌^◌, ◌<◌, ◌≤◌}
+use Prim.Native.Nat.{ℕ, zero, suc, ◌+◌, ◌-◌, ◌/◌, ◌%◌, ◌*◌, ◌^◌, ◌<◌, ◌≤◌}
 use mathlib.Core.Bool.{Bool}
-use mathlib.Core.List.{List}
-use mathlib.Core.Path.{◌≡◌, refl, sym, ap, ap₂, ◌∙◌}
+use mathlib.Core.List.{List, [], ◌∷◌, ◌++◌}
+use mathlib.Core.Path.{◌≡◌, refl, sym, ap, ap₂, subst, ◌∙◌}
 use native.Mathlib.Decide.{ℕ_discrete, dec_lt}
 use native.Mathlib.Nat.{pow-le-pow_right}
 use native.Mathlib.Omega.{arith}
@@ -11,7 +11,11 @@ use lib.Dec.{leb, ltb}
 use borrow.Author.Tests.{le-leb, lt-leb, lt-ltb, le-ltb}
 use Rattle.laws.specs.Choose.{choose}
 use Rattle.laws.specs.Sum.{total}
-use Rattle.io.specs.Digits.{last_digits, IsDigitCount}
+use lib.ListN.{length, length-append}
+use Rattle.io.specs.Digits.{hex_digit_ascii, last_digits, IsDigitCount}
+use Rattle.std.proofs.Math.Nat.{pow-succ'}
+use Rattle.std.proofs.lemmas.Fmt.{decimal_by_steps}
+use Rattle.std.specs.Fmt.{decimal}
 use Rattle.texts.specs.Text.{places, text}
 
 -- a count of the numbers below j, among those below m
@@ -68,3 +72,38 @@ digits_few n k h f = twenty n k f.0 f.1 f.2 h
 pub digits_text : (n k : ℕ) (v : List ℕ) → n < 2 ^ 64 → IsDigitCount 10 1 n k → v ≡ last_digits 10 k n → v ≡ text n
 unfolding text
 digits_text n k v h f e = e ∙ ap (λ (j : ℕ). last_digits 10 j n) (places_are n k f.0 f.1 f.2 h)
+
+-- ---- what std writes of a number is its text
+
+-- v is all digits of n, the last of them n % 10
+abbrev Spelled : ℕ → List ℕ → Type 0
+Spelled n v = n < 2 ^ 64 → IsDigitCount 10 1 n (length v) × (v ≡ last_digits 10 (length v) n)
+
+ascii : (d : ℕ) → d < 10 → hex_digit_ascii d ≡ 48 + d
+ascii d h = rw (lt-ltb d 10 h)
+
+spelled_one : (n : ℕ) → n < 10 → Spelled n ((48 + n) ∷ [])
+spelled_one n h l = ((omega arith, omega arith, λ z. absurd (omega arith)), let e : n % 10 ≡ n = omega arith in rw (e, ascii n h))
+
+reaches : (n k : ℕ) → 10 ≤ n → 1 ≤ k → (1 < k → 10 ^ (k - 1) ≤ n / 10) → 10 ^ k ≤ n
+reaches n k h l f =
+    elim (ℕ_discrete k 1) [
+      | yes e ↦ rw e (omega arith)
+      | no e ↦ let j : k ≡ suc (k - 1) = omega arith in let p : 10 ^ k ≡ 10 * 10 ^ (k - 1) = ap (λ (i : ℕ). 10 ^ i) j ∙ pow-succ' 10 (k - 1) in omega (arith, f (omega arith))
+    ]
+
+one_more : (n k : ℕ) → 10 ≤ n → IsDigitCount 10 1 (n / 10) k → IsDigitCount 10 1 n (suc k)
+one_more n k h f =
+    let e : suc k - 1 ≡ k = omega arith in
+    let p : 10 ^ suc k ≡ 10 * 10 ^ k = pow-succ' 10 k in
+    (omega arith, omega (arith, f.1), λ z. subst (λ (i : ℕ). 10 ^ i ≤ n) (sym e) (reaches n k h f.0 f.2))
+
+spelled_more : (n : ℕ) (v : List ℕ) → 10 ≤ n → Spelled (n / 10) v → Spelled n (v ++ ((48 + n % 10) ∷ []))
+spelled_more n v h f l =
+    let g : n / 10 < 2 ^ 64 = omega arith in
+    let k = f g in
+    let e : length (v ++ ((48 + n % 10) ∷ [])) ≡ suc (length v) = omega (arith, length-append v ((48 + n % 10) ∷ [])) in
+    rw e (one_more n (length v) h k.0, rw (ascii (n % 10) (omega arith)) (ap (λ (s : List ℕ). s ++ ((48 + n % 10) ∷ [])) k.1))
+
+pub decimal_text : (n : ℕ) → n < 2 ^ 64 → decimal n ≡ text n
+decimal_text n h = let k = decimal_by_steps Spelled spelled_one spelled_more n h h in digits_text n (length (decimal n)) (decimal n) h k.0 k.1

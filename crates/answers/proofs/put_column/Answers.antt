@@ -1,7 +1,0 @@
--- `answers::put_column` meets its contract.
--- Assumes nothing.
-use Rattle.texts.proofs.Putting.{put_two}
-use Rattle.answers.proofs.put_column.Goals as goal
-
-pub returns : goal.returns
-returns c = search put_two
