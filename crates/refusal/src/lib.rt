@@ -4,27 +4,27 @@
 ghost use Rattle.std.specs.Prelude.{◌≡◌};
 ghost use Rattle.refusal.specs.Number.{number_of};
 
-#[derive(Clone, Copy)]
+#[derive(Clone, Copy, PartialEq, Eq, Debug)]
 pub enum Refusal {
-    Cut,
-    Tail,
-    Count,
-    Prime,
-    Shape,
-    Strip,
-    Width,
-    Column,
-    Row,
-    Stale,
-    Ahead,
-    Many,
-    Room,
-    Long,
-    Exponent,
-    Element,
-    Unclear,
-    Foreign,
-    Twice,
+    Cut = 1,
+    Tail = 2,
+    Count = 3,
+    Prime = 4,
+    Shape = 5,
+    Strip = 6,
+    Width = 7,
+    Column = 8,
+    Row = 9,
+    Stale = 10,
+    Ahead = 11,
+    Many = 12,
+    Room = 13,
+    Long = 14,
+    Exponent = 15,
+    Element = 16,
+    Unclear = 17,
+    Foreign = 18,
+    Twice = 19,
 }
 
 // Done, or the refusal.
@@ -39,26 +39,6 @@ impl Refusal {
     pub fn number(self) -> u64
         ensures { result ≡ number_of self }
     {
-        match self {
-            Refusal::Cut => 1,
-            Refusal::Tail => 2,
-            Refusal::Count => 3,
-            Refusal::Prime => 4,
-            Refusal::Shape => 5,
-            Refusal::Strip => 6,
-            Refusal::Width => 7,
-            Refusal::Column => 8,
-            Refusal::Row => 9,
-            Refusal::Stale => 10,
-            Refusal::Ahead => 11,
-            Refusal::Many => 12,
-            Refusal::Room => 13,
-            Refusal::Long => 14,
-            Refusal::Exponent => 15,
-            Refusal::Element => 16,
-            Refusal::Unclear => 17,
-            Refusal::Foreign => 18,
-            Refusal::Twice => 19,
-        }
+        self as u64
     }
 }

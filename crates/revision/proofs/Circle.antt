@@ -37,6 +37,8 @@ module _ (n b d : ℕ) (e : d ≡ distance n b) where
   pub judge_newer : (d ≡ 2 ^ 31 → ⊥) → 2 ^ 31 ≤ d → n < 2 ^ 32 → b < 2 ^ 32 → (x : ℕ) → x ≡ distance b n → Newer x ≡ judged n b
   judge_newer h g hn hb x f = let l : 2 ^ 31 < d = omega arith in ap Newer (f ∙ other_way l hn hb) ∙ judge_rest l
 
+pub ruleset judgements = (judge_current, judge_unclear, judge_older, judge_newer)
+
 -- ---- which of them it is
 
 pub data Lies (n b : ℕ) : Type 0 where

@@ -10,7 +10,7 @@ use refusal::Refusal;
 const HALF: u32 = 2147483648;
 
 // How old the base of a write is: current, behind the revision by so much, ahead of it by so much, or exactly half the circle away.
-#[derive(Clone, Copy)]
+#[derive(Clone, Copy, PartialEq, Eq, Debug)]
 pub enum Age {
     Current,
     Older(u32),
@@ -25,9 +25,9 @@ impl Age {
     {
         match self {
             Age::Current => 0,
-            Age::Older(_) => Refusal::number(Refusal::Stale),
-            Age::Newer(_) => Refusal::number(Refusal::Ahead),
-            Age::Unclear => Refusal::number(Refusal::Unclear),
+            Age::Older(_) => Refusal::Stale.number(),
+            Age::Newer(_) => Refusal::Ahead.number(),
+            Age::Unclear => Refusal::Unclear.number(),
         }
     }
 
@@ -36,10 +36,8 @@ impl Age {
         ensures { result ≡ age_distance self }
     {
         match self {
-            Age::Current => 0,
-            Age::Older(d) => d,
-            Age::Newer(d) => d,
-            Age::Unclear => 0,
+            Age::Older(d) | Age::Newer(d) => d,
+            Age::Current | Age::Unclear => 0,
         }
     }
 
@@ -47,37 +45,35 @@ impl Age {
     pub fn is_current(self) -> bool
         ensures { result ≡ is_current self }
     {
-        self.number() == 0
+        self == Age::Current
     }
 }
 
 // How far b lies behind n, on the circle of 32 bits.
+#[tactic(auto, unfolding(crate::specs::Revision::distance))]
 fn behind(n: u32, b: u32) -> u32
     ensures { result ≡ distance n b }
 {
-    std::num::wrapping_sub_u32(n, b)
+    n.wrapping_sub(b)
 }
 
 // How old a base is against a revision.
+#[tactic(auto, using(crate::proofs::Circle::judgements))]
 pub fn judge(n: u32, b: u32) -> Age
     ensures { result ≡ judged n b }
 {
-    let d = behind(n, b);
-    if d == 0 {
-        return Age::Current;
+    match behind(n, b) {
+        0 => Age::Current,
+        HALF => Age::Unclear,
+        d if d < HALF => Age::Older(d),
+        _ => Age::Newer(behind(b, n)),
     }
-    if d == HALF {
-        return Age::Unclear;
-    }
-    if d < HALF {
-        return Age::Older(d);
-    }
-    Age::Newer(behind(b, n))
 }
 
 // The revision that follows a base.
+#[tactic(auto, unfolding(crate::specs::Revision::renewed))]
 pub fn renew(base: u32) -> u32
     ensures { result ≡ renewed base }
 {
-    std::num::wrapping_add_u32(base, 1)
+    base.wrapping_add(1)
 }
