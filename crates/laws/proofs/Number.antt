@@ -1,36 +1,15 @@
--- Numbers of two and of four bytes: what is read back, and what a patch leaves.
+-- Numbers of two and of four bytes: what a patch leaves, and what is read back.
 -- Assumes nothing.
 use Prim.Native.Nat.{ℕ, ◌+◌, ◌*◌, ◌/◌, ◌%◌, ◌^◌, ◌<◌, ◌≤◌}
 use mathlib.Core.List.{List}
 use mathlib.Core.Path.{◌≡◌, refl}
 use native.Mathlib.Nat.{add-zero, add_assoc}
 use native.Mathlib.Omega.{arith}
-use lib.ListN.{length, get_or, set}
+use lib.ListN.{length, get_or}
 use lib.Pow.{shr-shr}
-use Rattle.laws.proofs.Patch.{patch_none, patch_more, is_patch, patched}
+use Rattle.laws.proofs.Patch.{patched}
 use Rattle.laws.specs.Number.{u16, u32, put32, put16, byte}
 use Rattle.laws.specs.Patch.{Patched}
-
--- what two and four stores leave
-pub put16_stores : (s : List ℕ) (at v : ℕ) → at + 2 ≤ length s → set (set s at (v % 256)) (at + 1) (v / 256 % 256) ≡ put16 s at v
-unfolding put16
-put16_stores s at v h = is_patch s _ at 2 (byte v) h (two s at v (omega arith))
-  where
-    two : (s : List ℕ) (at v : ℕ) → at + 1 < length s → Patched s (set (set s at (v % 256)) (at + 1) (v / 256 % 256)) at 2 (byte v)
-    two s at v h =
-        let z : v % 256 ≡ v / 1 % 256 = omega arith in
-        let p1 : Patched s (set s at (v % 256)) at 1 (byte v) = rw add-zero at (patch_more s s at 0 (byte v) (v % 256) (patch_none s at (byte v)) (omega arith) z) in
-        patch_more s _ at 1 (byte v) (v / 256 % 256) p1 h refl
-
-pub put32_stores : (s : List ℕ) (at v : ℕ) → at + 4 ≤ length s
-    → set (set (set (set s at (v % 256)) (at + 1) (v / 256 % 256)) (at + 2) (v / 65536 % 256)) (at + 3) (v / 16777216 % 256) ≡ put32 s at v
-unfolding put32
-put32_stores s at v h =
-    let z : v % 256 ≡ v / 1 % 256 = omega arith in
-    let p1 : Patched s (set s at (v % 256)) at 1 (byte v) = rw add-zero at (patch_more s s at 0 (byte v) (v % 256) (patch_none s at (byte v)) (omega arith) z) in
-    let p2 = patch_more s _ at 1 (byte v) (v / 256 % 256) p1 (omega arith) refl in
-    let p3 = patch_more s _ at 2 (byte v) (v / 65536 % 256) p2 (omega arith) refl in
-    is_patch s _ at 4 (byte v) h (patch_more s _ at 3 (byte v) (v / 16777216 % 256) p3 (omega arith) refl)
 
 pub put16_patched : (s : List ℕ) (at v : ℕ) → at + 2 ≤ length s → Patched s (put16 s at v) at 2 (byte v)
 unfolding put16

@@ -1,16 +1,18 @@
 -- An image written out from what stands in its sections: its counts put around them, its bytes, and that reading accepts it.
 -- Assumes nothing.
 use Prim.Native.Nat.{ℕ, ◌+◌, ◌-◌, ◌*◌, ◌/◌, ◌%◌, ◌<◌, ◌≤◌}
-use mathlib.Core.List.{List, [], ◌++◌, append_assoc, append-nil}
+use mathlib.Core.List.{List, [], ◌∷◌, ◌++◌, append_assoc, append-nil}
 use mathlib.Core.Path.{◌≡◌, refl, sym, ap, ap₂, ◌∙◌}
 use native.Mathlib.Omega.{arith}
 use lib.ListN.{length, get_or, take, drop, length-append, get_or-append, take-append-drop, drop_of_length-le}
 use lib.Seq.{take-append_seam, drop-append_seam, get_or-append-add, drop-drop}
+use borrow.Rule.Slice.PartMut.{put_mid}
+use Rattle.std.specs.Int.{w16, w32, to_le_bytes}
 use Rattle.laws.proofs.Part.{length_part, length_put, is_put, get_or_put_before, get_or_put_in, get_or_put_after}
 use Rattle.laws.proofs.Place.{Place, place, before, inside, after}
 use Rattle.laws.proofs.Tab.{length_tab, get_or_tab}
-use Rattle.laws.specs.Number.{byte, u16, put16}
-use Rattle.laws.specs.Part.{part, put}
+use Rattle.laws.specs.Number.{byte, u16, put32}
+use Rattle.laws.specs.Part.{part, put, tab}
 use Rattle.laws.specs.Patch.{patch}
 use Rattle.stripe.specs.Layout.{column_length, revision_at, data_at, data_count_at, data_from, parity_count_at, parity_from, image_length}
 use Rattle.stripe.specs.Params.{Admitted}
@@ -87,11 +89,32 @@ length_three a b c = simp (length-append, length_tab)
 pub length_opening : (c : ℕ) (q : Params) (n : ℕ) → length (opening c q n) ≡ 12
 length_opening c q n = simp (length-append, length_tab)
 
-pub number_put : (s t : List ℕ) (at v : ℕ) → at + 2 ≤ length s → t ≡ put16 s at v → PutIn s t at (sixteen v)
-unfolding put16 patch
-number_put s t at v h e =
-    let l = length_sixteen v in
-    record { len = ap length e ∙ length_put s at (sixteen v) (omega arith); bytes = e }
+-- bytes that code copied to a place are put there
+mid_put : (s u : List ℕ) (at n : ℕ) → length u ≡ n → put_mid at (at + n - at) s u ≡ put s at u
+unfolding put
+mid_put s u at n e =
+    let z : at + (at + n - at) ≡ at + length u = omega arith in
+    ap (λ (l : List ℕ). take at s ++ (u ++ l)) (drop-drop (at + n - at) at s ∙ ap (λ (k : ℕ). drop k s) z)
+
+two_bytes : (v : ℕ) → to_le_bytes w16 v ≡ tab 2 (byte v)
+unfolding tab
+two_bytes v = let z : v % 256 ≡ v / 1 % 256 = omega arith in ap (λ (b : ℕ). b ∷ v / 256 % 256 ∷ []) z
+
+four_bytes : (v : ℕ) → to_le_bytes w32 v ≡ tab 4 (byte v)
+unfolding tab
+four_bytes v = let z : v % 256 ≡ v / 1 % 256 = omega arith in ap (λ (b : ℕ). b ∷ v / 256 % 256 ∷ v / 65536 % 256 ∷ v / 16777216 % 256 ∷ []) z
+
+pub number_put : (s u : List ℕ) (at v : ℕ) → at + 2 ≤ length s → u ≡ to_le_bytes w16 v → PutIn s (put_mid at (at + 2 - at) s u) at (sixteen v)
+number_put s u at v h e =
+    let z = e ∙ two_bytes v in
+    let p = mid_put s u at 2 (ap length z ∙ length_sixteen v) ∙ ap (put s at) z in
+    record { len = ap length p ∙ length_put s at (sixteen v) (omega (arith, length_sixteen v)); bytes = p }
+
+pub word_put : (s u : List ℕ) (at v : ℕ) → u ≡ to_le_bytes w32 v → put_mid at (at + 4 - at) s u ≡ put32 s at v
+unfolding put32 patch
+word_put s u at v e =
+    let z = e ∙ four_bytes v in
+    mid_put s u at 4 (ap length z ∙ length_tab 4 (byte v)) ∙ ap (put s at) z
 
 pub three_put : (s t1 t2 t3 : List ℕ) (at a b c : ℕ) → PutIn t2 t3 (at + 4) (sixteen c) → PutIn t1 t2 (at + 2) (sixteen b) → PutIn s t1 at (sixteen a)
     → at + 6 ≤ length s → PutIn s t3 at (three a b c)

@@ -1,35 +1,20 @@
 -- What the tests of the parameters show of their definitions.
 -- Assumes nothing.
-use Prim.Native.Nat.{ℕ, zero, suc, ◌+◌, ◌-◌, ◌*◌, ◌/◌, ◌%◌, ◌^◌, ◌<◌, ◌≤◌}
-use mathlib.Core.Bool.{Bool, true, false, ◌&&◌}
-use mathlib.Core.List.{List}
-use mathlib.Core.Logic.{◌≢◌}
-use mathlib.Core.Path.{◌≡◌, refl, sym, ap, ◌∙◌}
-use native.Mathlib.Decide.{ℕ_discrete, dec_lt}
-use native.Mathlib.Nat.{mul-le-mul, mul_comm, mul-mod_left, div-add-mod'}
+use Prim.Native.Nat.{ℕ, ◌+◌, ◌%◌, ◌<◌, ◌≤◌}
+use mathlib.Core.Bool.{Bool, true, false, not, ◌&&◌}
+use mathlib.Core.List.{[], ◌∷◌}
+use mathlib.Core.Path.{◌≡◌, refl, sym, ◌∙◌}
 use native.Mathlib.Omega.{arith}
-use lib.Dec.{leb, T, leb→le, le→leb}
+use lib.Dec.{eqb, leb, ltb, T, leb→le}
 use borrow.Author.Tests.{le-leb}
-use Rattle.laws.proofs.Choose.{and_left, and_right, both_T, T_true}
-use Rattle.laws.specs.Number.{u16}
-use Rattle.algebra.proofs.Prime.{OddPrime, prime_is, is_prime}
+use Rattle.std.specs.List.{list_any}
+use Rattle.laws.proofs.Choose.{and_left, and_right, below_at}
+use Rattle.laws.specs.Choose.{below}
+use Rattle.algebra.proofs.Prime.{OddPrime, prime_is}
 use Rattle.algebra.specs.Prime.{odd_prime}
 use Rattle.refusal.specs.declared.Refusal.TheVariants.{Prime, Shape, Strip}
 use Rattle.stripe.specs.Params.{admitted_prime, admitted_shape, admitted_strip, checked_of}
-use Rattle.stripe.specs.Sections.{numbers_at}
-use Rattle.stripe.specs.declared.Checked.{Checked}
 use Rattle.stripe.specs.declared.Checked.TheVariants.{Sound, Refused}
-use Rattle.stripe.specs.declared.Params.{Params}
-
--- no number from 2 to below n divides p
-abbrev pub Undivided : ℕ → ℕ → Type 0
-Undivided p n = (d : ℕ) → 2 ≤ d → d < n → p % d ≢ 0
-
-pub undivided_none : (p : ℕ) → Undivided p 2
-undivided_none p d h l = absurd (omega arith)
-
-pub undivided_more : (p n : ℕ) → Undivided p n → p % n ≢ 0 → Undivided p (n + 1)
-undivided_more p n u m d h l = elim (ℕ_discrete d n) [ yes e ↦ rw e m | no e ↦ u d h (omega arith) ]
 
 untrue : (b : Bool) → (T b → ⊥) → false ≡ b
 untrue true n = absurd (n tt)
@@ -48,42 +33,35 @@ pub above_largest : (p : ℕ) → 61 < p → false ≡ admitted_prime p
 unfolding admitted_prime
 above_largest p h = untrue _ (λ t. omega (arith, leb→le p 61 (and_right (odd_prime p) (leb p 61) t)))
 
--- d is below p where its square is not above p
-root_below : (p d : ℕ) → 2 ≤ d → d * d ≤ p → d < p
-root_below p d h l = omega (arith, mul-le-mul {n₁ = 2} {m₁ = d} {n₂ = d} {m₂ = d} h (omega arith))
+-- what `admits` tests, from 3 to the largest
+unfoldable pub has_factor : ℕ → Bool
+has_factor p = list_any (λ d. ltb d p && eqb (p % d) 0) (2 ∷ 3 ∷ 4 ∷ 5 ∷ 6 ∷ 7 ∷ [])
 
-pub root_fits : (p d : ℕ) → d ≤ p → p ≤ 61 → d * d < 2 ^ 64
-root_fits p d h l = omega (arith, mul-le-mul {n₁ = d} {m₁ = d} {n₂ = 61} {m₂ = 61} (omega arith) (omega arith))
+alike : Bool → Bool → Bool
+alike true b = b
+alike false b = not b
 
-pub root_next : (p d : ℕ) → 2 ≤ d → d * d ≤ p → d + 1 ≤ p
-root_next p d h l = omega (arith, root_below p d h l)
+alike_same : (a b : Bool) → T (alike a b) → a ≡ b
+unfolding alike
+alike_same true true t = refl
+alike_same true false t = absurd t
+alike_same false true t = absurd t
+alike_same false false t = refl
 
-pub root_nearer : (p d : ℕ) → 2 ≤ d → d * d ≤ p → p - (d + 1) < p - d
-root_nearer p d h l = omega (arith, root_below p d h l)
+-- by computation
+tested : T (below 62 (λ p. alike (leb 3 p && not (has_factor p)) (odd_prime p)))
+unfolding has_factor odd_prime below alike
+tested = tt
 
-pub divided : (p d : ℕ) → 2 ≤ d → d * d ≤ p → p % d ≡ 0 → false ≡ admitted_prime p
-divided p d h l e = untrue _ (λ t. (admitted_odd p t).no_divisor d h (root_below p d h l) e)
+and_true : (b : Bool) → b ≡ (b && true)
+and_true true = refl
+and_true false = refl
 
--- a divisor from d on has a factor beside it that is below d, where the square of d is above p
-undivided_above : (p d e : ℕ) → p < d * d → Undivided p d → d ≤ e → e < p → p % e ≢ 0
-undivided_above p d e g u h k z =
-    let f : ℕ = p / e in
-    let y : f * e ≡ p = omega (arith, div-add-mod' p e) in
-    u f (two f y) (small f y) (ap (λ (x : ℕ). x % f) (sym y ∙ mul_comm f e) ∙ mul-mod_left e f)
-  where
-    two : (f : ℕ) → f * e ≡ p → 2 ≤ f
-    two zero y = absurd (omega arith)
-    two (suc zero) y = absurd (omega arith)
-    two (suc (suc f)) y = omega arith
-
-    small : (f : ℕ) → f * e ≡ p → f < d
-    small f y = elim (dec_lt f d) [ yes l ↦ l | no l ↦ absurd (omega (arith, mul-le-mul {n₁ = d} {m₁ = d} {n₂ = f} {m₂ = e} (omega arith) h)) ]
-
-pub undivided : (p d : ℕ) → 3 ≤ p → p ≤ 61 → p < d * d → Undivided p d → true ≡ admitted_prime p
+pub admits_tested : (p : ℕ) (x : Bool) → 3 ≤ p → p ≤ 61 → x ≡ has_factor p → not x ≡ admitted_prime p
 unfolding admitted_prime
-undivided p d h l g u =
-    sym (T_true _ (both_T (odd_prime p) (leb p 61)
-    (is_prime p (record { three = h; no_divisor = λ e f k. elim (dec_lt e d) [ yes b ↦ u e f b | no b ↦ undivided_above p d e g u (omega arith) k ] })) (le→leb p 61 l)))
+admits_tested p x h l e =
+    let y : (leb 3 p && not (has_factor p)) ≡ odd_prime p = alike_same _ _ (below_at (λ p. alike (leb 3 p && not (has_factor p)) (odd_prime p)) 62 tested p (omega arith)) in
+    rw (e, ← y, le-leb 3 p h, le-leb p 61 l) (and_true (not (has_factor p)))
 
 -- ---- the ways out of `admits_shape` and `admits_strip`
 
@@ -134,9 +112,3 @@ module _ (p k r b : ℕ) (x : Bool) (e : x ≡ admitted_prime p) where
       pub sound : z ≡ true → Sound (record { p = p; k = k; r = r; b = b }) ≡ checked_of p k r b
       unfolding checked_of
       sound h = simp (sym e ∙ o, sym f ∙ n, sym g ∙ h)
-
--- ---- `parameters`: the numbers at a place, tested
-
-pub numbers_checked : (s : List ℕ) (at : ℕ) (q : Params) (x : Checked) → q ≡ numbers_at s at → x ≡ checked_of q.p q.k q.r q.b
-    → x ≡ checked_of (u16 s (at + 2)) (u16 s (at + 4)) (u16 s (at + 6)) (u16 s (at + 8))
-numbers_checked s at q x e f = f ∙ ap (λ (n : Params). checked_of n.p n.k n.r n.b) e

@@ -11,7 +11,7 @@ ghost use Rattle.stripe.specs.Sections.{numbers_at, sixteen, three, opening, Put
 use refusal::Refusal;
 
 // The parameters p, k, r and B of a stripe.
-#[derive(Clone, Copy)]
+#[derive(Clone, Copy, PartialEq, Eq, Debug)]
 pub struct Params {
     pub p: usize,
     pub k: usize,
@@ -70,56 +70,27 @@ impl Params {
         [0u8; Params::LARGEST_STRIP]
     }
 
-    // Whether p is an odd prime up to the largest. Of two factors one is no larger than the root.
+    // Whether p is an odd prime up to the largest, below 8 · 8: a number there that is no prime has a factor below 8.
     pub fn admits(p: usize) -> bool
         ensures { result ≡ admitted_prime p }
     {
-        if p < 3 {
-            return false;
-        }
-        if p > Params::LARGEST_PRIME {
-            return false;
-        }
-        let mut d = 2;
-        while d * d <= p {
-            if p % d == 0 {
-                return false;
-            }
-            d += 1;
-        }
-        true
+        3 <= p && p <= Params::LARGEST_PRIME && !(2..8).any(|d| d < p && p % d == 0)
     }
 
     // Whether k and r are at least 1 and k + r is at most p. The sum may not fit, and is not computed.
+    #[tactic(auto, unfolding(crate::specs::Params::admitted_shape))]
     fn admits_shape(p: usize, k: usize, r: usize) -> bool
         ensures { result ≡ admitted_shape p k r }
     {
-        if k < 1 {
-            return false;
-        }
-        if r < 1 {
-            return false;
-        }
-        if k > p {
-            return false;
-        }
-        if r > p - k {
-            return false;
-        }
-        true
+        1 <= k && 1 <= r && k <= p && r <= p - k
     }
 
     // Whether b is from 1 to the largest.
+    #[tactic(auto, unfolding(crate::specs::Params::admitted_strip))]
     fn admits_strip(b: usize) -> bool
         ensures { result ≡ admitted_strip b }
     {
-        if b < 1 {
-            return false;
-        }
-        if b > Params::LARGEST_STRIP {
-            return false;
-        }
-        true
+        1 <= b && b <= Params::LARGEST_STRIP
     }
 
     // The parameters, or the first refusal that is due: PRIME, SHAPE, STRIP.
@@ -203,43 +174,12 @@ impl Params {
     }
 }
 
-// The number of 16 bits whose bytes are lo and hi.
-fn join16(lo: u8, hi: u8) -> u16
-    ensures { result ≡ lo + 256 * hi }
-{
-    lo as u16 + hi as u16 * 256
-}
-
-// The number of 32 bits whose halves are lo and hi.
-fn join32(lo: u16, hi: u16) -> u32
-    ensures { result ≡ lo + 65536 * hi }
-{
-    lo as u32 + hi as u32 * 65536
-}
-
-// The number of 16 bits at a place.
-fn u16_at(s: &[u8], at: usize) -> u16
-    requires { at + 2 ≤ length s.now }
-    ensures { result ≡ u16 s.now at }
-{
-    join16(s[at], s[at + 1])
-}
-
 // The number of 32 bits at a place.
 pub fn u32_at(s: &[u8], at: usize) -> u32
     requires { at + 4 ≤ length s.now }
     ensures { result ≡ u32 s.now at }
 {
-    join32(u16_at(s, at), u16_at(s, at + 2))
-}
-
-// Puts the two bytes of v at a place.
-fn put_u16(s: &mut [u8], at: usize, v: u16)
-    requires { at + 2 ≤ length s.old }
-    ensures { s.new ≡ put16 s.old at v }
-{
-    s[at] = (v % 256) as u8;
-    s[at + 1] = (v / 256 % 256) as u8;
+    u32::from_le_bytes([s[at], s[at + 1], s[at + 2], s[at + 3]])
 }
 
 // Puts the four bytes of v at a place.
@@ -247,10 +187,7 @@ pub fn put_u32(s: &mut [u8], at: usize, v: u32)
     requires { at + 4 ≤ length s.old }
     ensures { s.new ≡ put32 s.old at v }
 {
-    s[at] = (v % 256) as u8;
-    s[at + 1] = (v / 256 % 256) as u8;
-    s[at + 2] = (v / 65536 % 256) as u8;
-    s[at + 3] = (v / 16777216 % 256) as u8;
+    s[at..at + 4].copy_from_slice(&v.to_le_bytes());
 }
 
 // The number of 16 bits at a place, as a size.
@@ -258,7 +195,7 @@ pub fn number(s: &[u8], at: usize) -> usize
     requires { at + 2 ≤ length s.now }
     ensures { (result ≡ u16 s.now at) × (result ≤ 65535) }
 {
-    u16_at(s, at) as usize
+    usize::from(u16::from_le_bytes([s[at], s[at + 1]]))
 }
 
 // Puts a number of 16 bits at a place.
@@ -266,10 +203,11 @@ pub fn put_number(s: &mut [u8], at: usize, v: usize)
     requires { (at + 2 ≤ length s.old) × (v ≤ 65535) }
     ensures { PutIn s.old s.new at (sixteen v) }
 {
-    put_u16(s, at, v as u16);
+    s[at..at + 2].copy_from_slice(&(v as u16).to_le_bytes());
 }
 
 // Puts three numbers of 16 bits at a place.
+#[tactic(auto, using(crate::proofs::Images::three_put))]
 fn put_three(s: &mut [u8], at: usize, u: usize, v: usize, w: usize)
     requires { (at + 6 ≤ length s.old) × (u ≤ 65535) × (v ≤ 65535) × (w ≤ 65535) }
     ensures { PutIn s.old s.new at (three u v w) }
@@ -280,6 +218,7 @@ fn put_three(s: &mut [u8], at: usize, u: usize, v: usize, w: usize)
 }
 
 // Writes a count, the parameters and the number behind them: what an image and the file of a column open with.
+#[tactic(auto, using(crate::proofs::Images::opening_put))]
 pub fn put_opening(s: &mut [u8], count: usize, q: Params, next: usize)
     requires { Admitted q × (12 ≤ length s.old) × (count ≤ 65535) × (next ≤ 65535) }
     ensures { PutIn s.old s.new 0 (opening count q next) }
@@ -289,6 +228,7 @@ pub fn put_opening(s: &mut [u8], count: usize, q: Params, next: usize)
 }
 
 // Writes section 1 and the counts of sections 2, 3 and 4 around what stands in them.
+#[tactic(auto, using(crate::proofs::Images::counts_put))]
 pub fn put_counts(image: &mut [u8], q: Params)
     requires { Fits image.old q }
     ensures { image.new ≡ image_of q (revisions_in image.old q) (columns_in image.old q) (parities_in image.old q) }

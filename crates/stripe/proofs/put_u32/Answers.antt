@@ -1,17 +1,8 @@
--- `stripe::put_u32` meets its contract. Assumes nothing.
-use native.Mathlib.Omega.{arith}
-use lib.ListN.{length-set}
-use Rattle.laws.proofs.Number.{put32_stores}
+-- `stripe::put_u32` meets its contract.
+-- Assumes nothing.
+use Rattle.std.proofs.Common.{◌∙◌}
+use Rattle.stripe.proofs.Images.{word_put}
 use Rattle.stripe.proofs.put_u32.Goals as goal
 
-pub bounds-s-at-2 : goal.bounds-s-at-2
-bounds-s-at-2 c = simp length-set (omega arith)
-
-pub bounds-s-at-3 : goal.bounds-s-at-3
-bounds-s-at-3 c = simp length-set (omega arith)
-
-pub bounds-s-at-4 : goal.bounds-s-at-4
-bounds-s-at-4 c = simp length-set (omega arith)
-
 pub returns : goal.returns
-returns c = search put32_stores
+returns c = word_put _ _ _ _ (c.copy_from_slice.ensures.after ∙ c.to_le_bytes.ensures)

@@ -1,28 +1,17 @@
--- `stripe::Params::admits` meets its contract: the loop keeps that no number from 2 to below d divides p. Assumes nothing.
-use native.Mathlib.Omega.{arith}
-use Rattle.stripe.proofs.Laws.{undivided_none, undivided_more, below_three, above_largest, root_fits, root_next, root_nearer, divided, undivided}
+-- `stripe::Params::admits` meets its contract.
+-- Assumes nothing.
+use Rattle.std.proofs.Common.{◌%◌, ◌&&◌, rules, tests, arith, refl, ltb, eqb}
+use Rattle.std.proofs.lemmas.Grind.{common_steps}
+use Rattle.std.proofs.lemmas.Iterator.{YieldsList-from_range}
+use Rattle.std.proofs.lemmas.Iterator.Search.{any_from_yields_List}
+use Rattle.stripe.proofs.Laws.{above_largest, admits_tested, below_three, has_factor}
 use Rattle.stripe.proofs.Params.admits.Goals as goal
 
-pub returns-then-p-lt3 : goal.returns-then-p-lt3
-returns-then-p-lt3 c = search below_three
+pub returns-then-p-le-LARGEST_PRIME : goal.returns-then-p-le-LARGEST_PRIME
+unfolding has_factor
+returns-then-p-le-LARGEST_PRIME c =
+    admits_tested _ _ (omega arith) (omega arith)
+    (any_from_yields_List (λ d. ltb d c.args.p && eqb (c.args.p % d) 0) _ _ _ c.any.ensures.ran (YieldsList-from_range 2 8 6 refl refl) (λ x b q k. search (rules, tests)))
 
-pub returns-then-p-gt-LARGEST_PRIME : goal.returns-then-p-gt-LARGEST_PRIME
-returns-then-p-gt-LARGEST_PRIME c = search above_largest
-
-pub loop-d-init : goal.loop-d-init
-loop-d-init c = (omega arith, omega arith, undivided_none _)
-
-pub overflow_mul-d : goal.overflow_mul-d
-overflow_mul-d c = search root_fits
-
-pub returns-then-p-d-eq0 : goal.returns-then-p-d-eq0
-returns-then-p-d-eq0 c = search divided
-
-pub loop-d-smaller : goal.loop-d-smaller
-loop-d-smaller c = search root_nearer
-
-pub loop-d-preserved : goal.loop-d-preserved
-loop-d-preserved c = (omega arith, search root_next, search undivided_more)
-
-pub returns : goal.returns
-returns c = search undivided
+pub returns-else-p-le-LARGEST_PRIME : goal.returns-else-p-le-LARGEST_PRIME
+returns-else-p-le-LARGEST_PRIME c = grind (arith, common_steps, above_largest, below_three)
