@@ -4,6 +4,7 @@
 ghost use Rattle.std.specs.Prelude.{◌≡◌, Some};
 ghost use Rattle.answers.specs.List.{list_of};
 ghost use Rattle.answers.specs.Line.{named, line_of};
+ghost use Rattle.answers.specs.declared.Answer.TheVariants.{Aged, Refused};
 
 use refusal::Refusal;
 use revision::Age;
@@ -99,4 +100,22 @@ impl fmt::Display for Answer {
 // Writes the line of an answer on standard output.
 pub fn say(rt: &impl Print, answer: Answer) -> io::Result<()> {
     print!(rt; "{answer}")
+}
+
+// Where a call refuses, the refusal is the answer.
+impl From<Refusal> for Answer {
+    ghost from_gives = { λ e answer. answer ≡ Refused e };
+
+    fn from(e: Refusal) -> Answer {
+        Answer::Refused(e)
+    }
+}
+
+// Where a base is not current, its age is the answer.
+impl From<Age> for Answer {
+    ghost from_gives = { λ age answer. answer ≡ Aged age };
+
+    fn from(age: Age) -> Answer {
+        Answer::Aged(age)
+    }
 }
