@@ -34,6 +34,13 @@ pub record ColumnAsked (s acc : List ℕ) (q : Params) (j w : ℕ) : Type 0 wher
   pub fits : w ≤ q.b
   pub room : q.p * w ≤ length acc
 
+-- w lanes at a time, of those that a strip has, and no more than a row of n bytes has room for
+pub record Lanes (q : Params) (w n : ℕ) : Type 0 where
+  pub some : 1 ≤ w
+  pub fits : w ≤ q.b
+  pub held : w ≤ n
+  pub most : n ≤ 128
+
 -- a block of w lanes of b that starts at `a` has the lanes from l on that a block has
 pub record Starts (l w b a : ℕ) : Type 0 where
   pub low : a ≤ l

@@ -1,15 +1,14 @@
 // Parity from data: make, refill and check.
 #![tactic(auto)]
 
-ghost use Rattle.std.specs.Prelude.{◌≡◌, ◌≤◌, eqb};
-ghost use Rattle.laws.specs.Choose.{choose};
+ghost use Rattle.std.specs.Prelude.{◌≡◌, ◌≤◌};
 ghost use Rattle.laws.specs.Left.{Leaves};
 ghost use Rattle.stripe.specs.Params.{Admitted};
 ghost use Rattle.stripe.specs.Reading.{Image};
 ghost use Rattle.block.specs.Parity.{refilled};
 ghost use Rattle.parity.specs.Make.{made};
 ghost use Rattle.parity.specs.Answer.{make_sound, make_of, refill_of, wrong_parities, check_of};
-ghost use Rattle.parity.specs.Inner.{wrong_bit, ColumnAsked, Starts, ColumnFilled, Room, unset};
+ghost use Rattle.parity.specs.Inner.{wrong_bit, ColumnAsked, Lanes, Starts, ColumnFilled, Room, unset};
 
 use refusal::{Outcome, Refusal};
 use stripe::{Checked, Params, Reading};
@@ -33,10 +32,7 @@ fn block_from(l: usize, w: usize, b: usize) -> usize
     requires { w ≤ b }
     ensures { Starts l w b result }
 {
-    if l > b - w {
-        return b - w;
-    }
-    l
+    l.min(b - w)
 }
 
 // Puts parity j in its place, w lanes at a time.
@@ -44,93 +40,38 @@ fn refill_column(image: &mut [u8], q: Params, j: usize, w: usize, acc: &mut [u8]
     requires { ColumnAsked image.old acc.old q j w }
     ensures { ColumnFilled image.old image.new q j q.b }
 {
-    let mut l: usize = 0;
-    while l < q.b {
+    for l in (0..q.b).step_by(w) {
         block::refill_block(image, q, j, block_from(l, w, q.b), w, acc);
-        l += w;
     }
 }
 
-// Puts every parity in its place, a wide block at a time.
-fn refill_wide(image: &mut [u8], q: Params)
-    requires { Image image.old q × (128 ≤ q.b) }
+// Puts every parity in its place, w lanes at a time, worked out in rows of ROOM bytes.
+fn refill_by<const ROOM: usize>(image: &mut [u8], q: Params, w: usize)
+    requires image { Image image.old q }
+    requires lanes { Lanes q w ROOM }
     ensures { image.new ≡ refilled image.old q }
 {
-    let mut acc = [0u8; Params::LARGEST_PRIME * WIDE];
-    let mut j: usize = 0;
-    while j < q.r {
-        refill_column(image, q, j, WIDE, &mut acc);
-        j += 1;
+    let mut rows = [[0u8; ROOM]; Params::LARGEST_PRIME];
+    let acc = rows.as_flattened_mut();
+    for j in 0..q.r {
+        refill_column(image, q, j, w, acc);
     }
 }
 
-// The same, a middle block at a time.
-fn refill_middle(image: &mut [u8], q: Params)
-    requires { Image image.old q × (32 ≤ q.b) }
-    ensures { image.new ≡ refilled image.old q }
-{
-    let mut acc = [0u8; Params::LARGEST_PRIME * MIDDLE];
-    let mut j: usize = 0;
-    while j < q.r {
-        refill_column(image, q, j, MIDDLE, &mut acc);
-        j += 1;
-    }
-}
-
-// The same, a narrow block at a time.
-fn refill_narrow(image: &mut [u8], q: Params)
-    requires { Image image.old q × (16 ≤ q.b) }
-    ensures { image.new ≡ refilled image.old q }
-{
-    let mut acc = [0u8; Params::LARGEST_PRIME * NARROW];
-    let mut j: usize = 0;
-    while j < q.r {
-        refill_column(image, q, j, NARROW, &mut acc);
-        j += 1;
-    }
-}
-
-// The same, all lanes of a strip that is no wider than a narrow block at once.
-fn refill_thin(image: &mut [u8], q: Params)
-    requires { Image image.old q × (q.b ≤ 16) }
-    ensures { image.new ≡ refilled image.old q }
-{
-    let mut acc = [0u8; Params::LARGEST_PRIME * NARROW];
-    let mut j: usize = 0;
-    while j < q.r {
-        block::refill_block(image, q, j, 0, q.b, &mut acc);
-        j += 1;
-    }
-}
-
-// Sets all parity from the data.
+// Sets all parity from the data, by the widest block that a strip has lanes for.
 fn refill_all(image: &mut [u8], q: Params)
     requires { Image image.old q }
     ensures { image.new ≡ refilled image.old q }
 {
     if q.b >= WIDE {
-        refill_wide(image, q);
-        return;
+        refill_by::<WIDE>(image, q, WIDE)
+    } else if q.b >= MIDDLE {
+        refill_by::<MIDDLE>(image, q, MIDDLE)
+    } else if q.b >= NARROW {
+        refill_by::<NARROW>(image, q, NARROW)
+    } else {
+        refill_by::<NARROW>(image, q, q.b)
     }
-    if q.b >= MIDDLE {
-        refill_middle(image, q);
-        return;
-    }
-    if q.b >= NARROW {
-        refill_narrow(image, q);
-        return;
-    }
-    refill_thin(image, q);
-}
-
-// 0 for 0, else 1.
-fn flag(bad: u8) -> u64
-    ensures { result ≡ choose (eqb bad 0) 0 1 }
-{
-    if bad == 0 {
-        return 0;
-    }
-    1
 }
 
 // 0 where parity j is right, else 1; w lanes at a time.
@@ -139,89 +80,41 @@ fn check_column(image: &[u8], q: Params, j: usize, w: usize, acc: &mut [u8]) -> 
     ensures { result ≡ wrong_bit image.now q j }
 {
     let mut bad: u8 = 0;
-    let mut l: usize = 0;
-    while l < q.b {
+    for l in (0..q.b).step_by(w) {
         bad = block::check_block(bad, image, q, j, block_from(l, w, q.b), w, acc);
-        l += w;
     }
-    flag(bad)
+    u64::from(bad != 0)
 }
 
-// The word whose bit j is set where parity j is wrong, found a wide block at a time.
-fn check_wide(image: &[u8], q: Params) -> u64
-    requires { Image image.now q × (128 ≤ q.b) }
+// The word whose bit j is set where parity j is wrong, w lanes at a time, worked out in rows of ROOM bytes.
+fn check_by<const ROOM: usize>(image: &[u8], q: Params, w: usize) -> u64
+    requires image { Image image.now q }
+    requires lanes { Lanes q w ROOM }
     ensures { result ≡ wrong_parities image.now q }
 {
-    let mut acc = [0u8; Params::LARGEST_PRIME * WIDE];
+    let mut rows = [[0u8; ROOM]; Params::LARGEST_PRIME];
+    let acc = rows.as_flattened_mut();
     let mut word = 0;
-    let mut j: usize = 0;
-    while j < q.r {
-        word += check_column(image, q, j, WIDE, &mut acc) << j;
-        j += 1;
+    for j in 0..q.r {
+        word += check_column(image, q, j, w, acc) << j;
     }
     word
 }
 
-// The same, a middle block at a time.
-fn check_middle(image: &[u8], q: Params) -> u64
-    requires { Image image.now q × (32 ≤ q.b) }
-    ensures { result ≡ wrong_parities image.now q }
-{
-    let mut acc = [0u8; Params::LARGEST_PRIME * MIDDLE];
-    let mut word = 0;
-    let mut j: usize = 0;
-    while j < q.r {
-        word += check_column(image, q, j, MIDDLE, &mut acc) << j;
-        j += 1;
-    }
-    word
-}
-
-// The same, a narrow block at a time.
-fn check_narrow(image: &[u8], q: Params) -> u64
-    requires { Image image.now q × (16 ≤ q.b) }
-    ensures { result ≡ wrong_parities image.now q }
-{
-    let mut acc = [0u8; Params::LARGEST_PRIME * NARROW];
-    let mut word = 0;
-    let mut j: usize = 0;
-    while j < q.r {
-        word += check_column(image, q, j, NARROW, &mut acc) << j;
-        j += 1;
-    }
-    word
-}
-
-// The same, all lanes of a strip that is no wider than a narrow block at once.
-fn check_thin(image: &[u8], q: Params) -> u64
-    requires { Image image.now q × (q.b ≤ 16) }
-    ensures { result ≡ wrong_parities image.now q }
-{
-    let mut acc = [0u8; Params::LARGEST_PRIME * NARROW];
-    let mut word = 0;
-    let mut j: usize = 0;
-    while j < q.r {
-        word += flag(block::check_block(0, image, q, j, 0, q.b, &mut acc)) << j;
-        j += 1;
-    }
-    word
-}
-
-// The word whose bit j is set where parity j is wrong.
+// The word whose bit j is set where parity j is wrong, by the widest block that a strip has lanes for.
 fn wrong(image: &[u8], q: Params) -> u64
     requires { Image image.now q }
     ensures { result ≡ wrong_parities image.now q }
 {
     if q.b >= WIDE {
-        return check_wide(image, q);
+        check_by::<WIDE>(image, q, WIDE)
+    } else if q.b >= MIDDLE {
+        check_by::<MIDDLE>(image, q, MIDDLE)
+    } else if q.b >= NARROW {
+        check_by::<NARROW>(image, q, NARROW)
+    } else {
+        check_by::<NARROW>(image, q, q.b)
     }
-    if q.b >= MIDDLE {
-        return check_middle(image, q);
-    }
-    if q.b >= NARROW {
-        return check_narrow(image, q);
-    }
-    check_thin(image, q)
 }
 
 // Sets all parity of an image from its data; other bytes stay.
