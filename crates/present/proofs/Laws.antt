@@ -97,12 +97,6 @@ module _ (s u : List ℕ) (q : Params) (m i t : ℕ) (d : List ℕ) (j c : ℕ) 
             ∙ sym (moved_column s q m i t d j o l)));
       }
 
-pub shift_end : (s u : List ℕ) (q : Params) (m i t : ℕ) (d : List ℕ) (j c : ℕ) → Shifted s u q m i t d j c → j ≤ q.r → q.r ≤ j → Shifted s u q m i t d q.r c
-shift_end s u q m i t d j c S h g = let z : j ≡ q.r = omega arith in subst (λ (n : ℕ). Shifted s u q m i t d n c) z S
-
 -- no column counts more than its rows
 pub scatter_few : (s : List ℕ) (q : Params) (i t : ℕ) (u y d : List ℕ) (at w x : ℕ) → Target s q i t d → Scattered u y d at (q.p - 1) w x → x ≤ 60
 scatter_few s q i t u y d at w x T a = omega (arith, a.count, weight_most w (q.p - 1), T.accepted.admitted.p_high)
-
-pub crossing : (s : List ℕ) (q : Params) (i t : ℕ) (d : List ℕ) (j : ℕ) → Target s q i t d → j < q.r → Crossing q i t j
-crossing s q i t d j T h = record { admitted = T.accepted.admitted; column = T.column; row = T.row; parity = h }

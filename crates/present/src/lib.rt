@@ -39,14 +39,11 @@ pub fn move_parity(
     requires { Target image.old q column row diff.now }
     ensures { Shifted image.old image.new q lost column row diff.now q.r result }
 {
-    let parities = q.r;
     let rows = q.p - 1;
     let mut count = 0;
-    let mut j: usize = 0;
-    while j < parities {
+    for j in 0..q.r {
         let touched = touch_present(q, lost, column, row, j);
         count += engine::scatter(image, q.parity_at(j), rows, touched, diff);
-        j += 1;
     }
     count
 }

@@ -1,11 +1,8 @@
 -- `present::move_parity` meets its contract.
 -- Assumes nothing.
-use Prim.Native.Nat.{◌*◌, ◌-◌, ◌≤◌}
+use Prim.Native.Nat.{◌*◌, ◌≤◌}
 use Rattle.present.specs.Steps.{Shifted}
 use Rattle.present.proofs.move_parity.Given as goal
 
 abbrev pub invariant-loop-j : goal.invariant-loop-j
-invariant-loop-j l = (l.j ≤ l.parities) × (l.count ≤ 60 * l.j) × Shifted l.initial.image l.image l.q l.lost l.column l.row l.diff l.j l.count
-
-abbrev pub decreases-loop-j : goal.decreases-loop-j
-decreases-loop-j l = l.parities - l.j
+invariant-loop-j l = (l.count ≤ 60 * l.j) × Shifted l.initial.image l.image l.q l.lost l.column l.row l.diff l.j l.count
