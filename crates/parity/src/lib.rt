@@ -20,6 +20,9 @@ const MIDDLE: usize = 32;
 
 const NARROW: usize = 16;
 
+// The most lanes of a strip that is narrower still: all are one block.
+const THIN: usize = NARROW - 1;
+
 // The word of wrong parities, or the refusal.
 #[derive(Clone, Copy)]
 pub enum Checkup {
@@ -35,7 +38,8 @@ fn block_from(l: usize, w: usize, b: usize) -> usize
     l.min(b - w)
 }
 
-// Puts parity j in its place, w lanes at a time.
+// Puts parity j in its place, w lanes at a time; inlined, since a width that stands in the code lets the lanes stay in registers.
+#[inline(always)]
 fn refill_column(image: &mut [u8], q: Params, j: usize, w: usize, acc: &mut [u8])
     requires { ColumnAsked image.old acc.old q j w }
     ensures { ColumnFilled image.old image.new q j q.b }
@@ -45,7 +49,8 @@ fn refill_column(image: &mut [u8], q: Params, j: usize, w: usize, acc: &mut [u8]
     }
 }
 
-// Puts every parity in its place, w lanes at a time, worked out in rows of ROOM bytes.
+// Puts every parity in its place, w lanes at a time, worked out in rows of ROOM bytes; not inlined, so that its frame has the rows of one width alone.
+#[inline(never)]
 fn refill_by<const ROOM: usize>(image: &mut [u8], q: Params, w: usize)
     requires image { Image image.old q }
     requires lanes { Lanes q w ROOM }
@@ -70,11 +75,12 @@ fn refill_all(image: &mut [u8], q: Params)
     } else if q.b >= NARROW {
         refill_by::<NARROW>(image, q, NARROW)
     } else {
-        refill_by::<NARROW>(image, q, q.b)
+        refill_by::<THIN>(image, q, q.b)
     }
 }
 
-// 0 where parity j is right, else 1; w lanes at a time.
+// 0 where parity j is right, else 1; w lanes at a time, and inlined like `refill_column`.
+#[inline(always)]
 fn check_column(image: &[u8], q: Params, j: usize, w: usize, acc: &mut [u8]) -> u64
     requires { ColumnAsked image.now acc.old q j w }
     ensures { result ≡ wrong_bit image.now q j }
@@ -113,7 +119,7 @@ fn wrong(image: &[u8], q: Params) -> u64
     } else if q.b >= NARROW {
         check_by::<NARROW>(image, q, NARROW)
     } else {
-        check_by::<NARROW>(image, q, q.b)
+        check_by::<THIN>(image, q, q.b)
     }
 }
 
