@@ -8,7 +8,6 @@ use std::fs::{File, OpenOptions, Permissions};
 use std::io::{ErrorKind, Read, Write};
 use std::os::unix::fs::{FileExt, PermissionsExt};
 use std::{fs, io};
-use words::Number;
 
 fn say(rt: &HostRuntime, text: &[u8]) -> io::Result<()> {
     rt.write_all(text)
@@ -21,10 +20,7 @@ fn word(line: &[u8], i: usize) -> &[u8] {
 
 // A path that is a word of a line.
 fn path(word: &[u8]) -> io::Result<&str> {
-    match str::from_utf8(word) {
-        Ok(text) => Ok(text),
-        Err(_) => Err(io::Error::from(ErrorKind::InvalidInput)),
-    }
+    str::from_utf8(word).map_err(|_| io::Error::from(ErrorKind::InvalidInput))
 }
 
 // Reads a file, as much of it as the buffer holds.
@@ -87,34 +83,18 @@ fn enlarge(rt: &HostRuntime, name: &[u8]) -> io::Result<()> {
 
 // Does what a line asks that is no command; whether it was one of these.
 fn prepare(rt: &HostRuntime, line: &[u8]) -> io::Result<bool> {
-    let verb = word(line, 0);
     let name = word(line, 1);
-    if words::same(verb, b"same") {
-        compare(rt, name, word(line, 2))?;
-        return Ok(true);
-    }
-    if words::same(verb, b"hide") {
-        hide(rt, name)?;
-        return Ok(true);
-    }
-    if words::same(verb, b"lengthen") {
-        lengthen(rt, name)?;
-        return Ok(true);
-    }
-    if words::same(verb, b"large") {
-        enlarge(rt, name)?;
-        return Ok(true);
-    }
-    Ok(false)
-}
-
-// The same for `spoil`.
-fn prepare_spoiled(rt: &HostRuntime, line: &[u8]) -> io::Result<bool> {
-    if !words::same(word(line, 0), b"spoil") {
-        return Ok(false);
-    }
-    if let Number::Value(at) = words::decimal(word(line, 2)) {
-        spoil(rt, word(line, 1), at)?;
+    match word(line, 0) {
+        b"same" => compare(rt, name, word(line, 2))?,
+        b"hide" => hide(rt, name)?,
+        b"lengthen" => lengthen(rt, name)?,
+        b"large" => enlarge(rt, name)?,
+        b"spoil" => {
+            if let Some(at) = words::decimal(word(line, 2)) {
+                spoil(rt, name, at)?;
+            }
+        }
+        _ => return Ok(false),
     }
     Ok(true)
 }
@@ -124,21 +104,18 @@ fn case(rt: &HostRuntime, line: &[u8]) -> io::Result<()> {
     say(rt, b"$ ")?;
     say(rt, line)?;
     say(rt, b"\n")?;
-    if prepare(rt, line)? {
-        return Ok(());
+    if !prepare(rt, line)? {
+        commands::run(rt, line, b' ');
     }
-    if prepare_spoiled(rt, line)? {
-        return Ok(());
-    }
-    commands::run(rt, line, b' ');
     Ok(())
 }
 
 // Every line but what stands after the last end of a line.
 fn cases(rt: &HostRuntime, lines: &[u8]) -> io::Result<()> {
-    let n = words::count(lines, b'\n');
-    for i in 1..n {
-        case(rt, words::word(lines, b'\n', i - 1))?;
+    for line in lines.split_inclusive(|c| *c == b'\n') {
+        if let Some(line) = line.strip_suffix(b"\n") {
+            case(rt, line)?;
+        }
     }
     Ok(())
 }

@@ -1,6 +1,7 @@
 -- The list of a pattern's columns, read as the word of a command, is the pattern again.
 -- Assumes nothing.
 use Prim.Native.Nat.{ℕ, zero, suc, ◌+◌, ◌%◌, ◌^◌, ◌<◌, ◌≤◌, min}
+use Rattle.std.proofs.Common.{Option, Some, None}
 use mathlib.Core.Bool.{Bool, true, false, ◌&&◌, false≢true}
 use mathlib.Core.List.{List, [], ◌∷◌, ◌++◌, append-nil}
 use mathlib.Core.Logic.{◌⊎◌, inl, inr}
@@ -22,10 +23,6 @@ use Rattle.words.proofs.Listing.{some_listed}
 use Rattle.words.specs.Columns.{columns_of, named, then_named, with_column}
 use Rattle.words.specs.Decimal.{decimal_of, is_numeral, all_digits, is_digit, spelled}
 use Rattle.words.specs.Words.{parts, before_first, same_bytes}
-use Rattle.words.specs.declared.Lost.{Lost}
-use Rattle.words.specs.declared.Lost.TheVariants.{Columns, NoList}
-use Rattle.words.specs.declared.Number.{Number}
-use Rattle.words.specs.declared.Number.TheVariants.{Value, NoNumber}
 use Rattle.answers.specs.List.{is_none, comma, next_text, columns_below, list_of}
 
 -- ---- the pattern of the columns below n
@@ -73,16 +70,7 @@ module _ (w n : ℕ) where
 
 -- ---- one column
 
-abbrev value : Lost → ℕ
-value (Columns w) = w
-value NoList = 0
-
-abbrev is_list : Lost → Bool
-is_list (Columns w) = true
-is_list NoList = false
-
 digit_low : (c : ℕ) → is_digit c ≡ true → 48 ≤ c
-unfolding is_digit
 digit_low c e = leb-true 48 c (T_true (leb 48 c) (and_left (leb 48 c) (leb c 57) (true_T (leb 48 c && leb c 57) e)))
 
 zero_no_digit : is_digit 0 ≡ true → ⊥
@@ -102,7 +90,7 @@ numeral_starts [] e = absurd (false≢true e)
 numeral_starts (c ∷ v) e = (T_true (is_digit c) (and_left (is_digit c) (all_digits v) (true_T (is_digit c && all_digits v) e)), e)
 
 numerals : T (below 64 (λ i. is_numeral (text i) && eqb (spelled 0 (text i)) i))
-unfolding below text places total is_numeral all_digits is_digit spelled
+unfolding below text places total is_numeral all_digits spelled
 numerals = tt
 
 module _ (n : ℕ) (h : n < 64) where
@@ -112,7 +100,7 @@ module _ (n : ℕ) (h : n < 64) where
   column_numeral : is_numeral (text n) ≡ true
   column_numeral = T_true (is_numeral (text n)) (and_left (is_numeral (text n)) (eqb (spelled 0 (text n)) n) tested)
 
-  column_read : decimal_of (text n) ≡ Value n
+  column_read : decimal_of (text n) ≡ Some n
   unfolding decimal_of
   column_read =
       let e : spelled 0 (text n) ≡ n = eqb-true (spelled 0 (text n)) n (T_true (eqb (spelled 0 (text n)) n) (and_right (is_numeral (text n)) (eqb (spelled 0 (text n)) n) tested)) in
@@ -131,17 +119,17 @@ parts_behind (c ∷ s) v = rw (parts_behind s v) (go (eqb c 44) (parts 44 s) (pa
     go false [] h = absurd (omega arith)
     go false (x ∷ ws) h = refl
 
-named_behind : (ws vs : List (List ℕ)) (w u : ℕ) → named ws w ≡ Columns u → named (ws ++ vs) w ≡ named vs u
+named_behind : (ws vs : List (List ℕ)) (w u : ℕ) → named ws w ≡ Some u → named (ws ++ vs) w ≡ named vs u
 unfolding named
-named_behind [] vs w u e = ap (named vs) (ap value e)
+named_behind [] vs w u e = let f : w ≡ u = cc in rw f
 named_behind (x ∷ ws) vs w u e = go (decimal_of x) (λ z. named_behind ws vs z u) e
   where
-    go : (v : Number) → ((z : ℕ) → named ws z ≡ Columns u → named (ws ++ vs) z ≡ named vs u)
-        → then_named v (λ n. named ws (with_column w n)) ≡ Columns u → then_named v (λ n. named (ws ++ vs) (with_column w n)) ≡ named vs u
-    go (Value n) r f = r (with_column w n) f
-    go NoNumber r f = absurd (false≢true (ap is_list f))
+    go : (v : Option ℕ) → ((z : ℕ) → named ws z ≡ Some u → named (ws ++ vs) z ≡ named vs u)
+        → then_named v (λ n. named ws (with_column w n)) ≡ Some u → then_named v (λ n. named (ws ++ vs) (with_column w n)) ≡ named vs u
+    go (Some n) r f = r (with_column w n) f
+    go None r f = cc
 
-one_named : (n w : ℕ) → n < 64 → named (parts 44 (text n)) w ≡ Columns (with_column w n)
+one_named : (n w : ℕ) → n < 64 → named (parts 44 (text n)) w ≡ Some (with_column w n)
 unfolding named
 one_named n w h = rw (one_part (text n) (numeral_starts (text n) (column_numeral n h)).1) (rw (column_read n h))
 
@@ -149,7 +137,7 @@ one_named n w h = rw (one_part (text n) (numeral_starts (text n) (column_numeral
 
 record Reads (s : List ℕ) (u : ℕ) : Type 0 where
   starts : is_digit (get_or s 0 0) ≡ true
-  reads : named (parts 44 s) 0 ≡ Columns u
+  reads : named (parts 44 s) 0 ≡ Some u
 
 abbrev SoFar : List ℕ → ℕ → Type 0
 SoFar s u = ((s ≡ []) × (u ≡ 0)) ⊎ Reads s u
@@ -180,21 +168,21 @@ every_so_far w (suc n) h = subst (λ (m : ℕ). SoFar (columns_below w m) (so_fa
 
 -- ---- the word of a pattern of 64 bits
 
-word_read : (s : List ℕ) (u : ℕ) → Reads s u → Columns u ≡ columns_of s
+word_read : (s : List ℕ) (u : ℕ) → Reads s u → Some u ≡ columns_of s
 unfolding same_bytes
 word_read [] u r = absurd (zero_no_digit r.starts)
 word_read (c ∷ s) u r =
     let n : c ≡ 45 → ⊥ = λ e. omega (arith, digit_low c r.starts) in
-    some_listed (c ∷ s) false (Columns u) (λ z. omega arith) (rw (ne_eqb c 45 n)) refl (sym r.reads)
+    sym r.reads ∙ some_listed (c ∷ s) (λ z. omega arith) (rw (ne_eqb c 45 n))
 
-pub list_read : (w : ℕ) → w < 2 ^ 64 → columns_of (list_of w) ≡ Columns w
-unfolding list_of columns_of same_bytes
+pub list_read : (w : ℕ) → w < 2 ^ 64 → columns_of (list_of w) ≡ Some w
+unfolding list_of same_bytes
 list_read w h =
     elim (ℕ_discrete w 0) [
       | yes e ↦ rw e
       | no e ↦ rw (ne_eqb w 0 e) (go e (every_so_far w 64 (omega arith)))
     ]
   where
-    go : (w ≡ 0 → ⊥) → SoFar (columns_below w 64) (so_far w 64) → columns_of (columns_below w 64) ≡ Columns w
+    go : (w ≡ 0 → ⊥) → SoFar (columns_below w 64) (so_far w 64) → columns_of (columns_below w 64) ≡ Some w
     go e (inl (f, g)) = absurd (e (sym (all_so_far w h) ∙ g))
-    go e (inr r) = sym (word_read (columns_below w 64) (so_far w 64) r) ∙ ap Columns (all_so_far w h)
+    go e (inr r) = sym (word_read (columns_below w 64) (so_far w 64) r) ∙ ap (λ (v : ℕ). Some v) (all_so_far w h)

@@ -1,68 +1,64 @@
 -- Words and what they are.
 -- Assumes nothing.
-use Prim.Native.Nat.{◌^◌}
-use mathlib.Core.List.{[], ◌∷◌}
-use mathlib.Core.Path.{◌≡◌, refl}
+use Rattle.std.proofs.Common.{◌≡◌, ◌^◌, Some, None, [], ◌∷◌, refl}
 use Rattle.laws.specs.Bit.{bit, pack}
-use Rattle.words.specs.Command.{asks_for, asks_from, command_of, short_command, import_name}
+use Rattle.words.specs.Command.{command_of, import_name}
 use Rattle.words.specs.Columns.{named, columns_of, with_column}
-use Rattle.words.specs.Decimal.{spelled, decimal_of, all_digits, is_digit, is_numeral}
+use Rattle.words.specs.Decimal.{spelled, decimal_of, all_digits, is_numeral}
 use Rattle.words.specs.Words.{before_first, same_bytes, parts}
 use Rattle.words.specs.declared.Command.TheVariants.{Import, Usage}
-use Rattle.words.specs.declared.Lost.TheVariants.{Columns, NoList}
-use Rattle.words.specs.declared.Number.TheVariants.{Value, NoNumber}
 
 -- 0, 007, 18446744073709551615 and one more, nothing, 1:
-zero_word : decimal_of (48 ∷ []) ≡ Value 0
-unfolding decimal_of is_numeral all_digits is_digit spelled
+zero_word : decimal_of (48 ∷ []) ≡ Some 0
+unfolding decimal_of is_numeral all_digits spelled
 zero_word = refl
 
-leading_zeros : decimal_of (48 ∷ 48 ∷ 55 ∷ []) ≡ Value 7
-unfolding decimal_of is_numeral all_digits is_digit spelled
+leading_zeros : decimal_of (48 ∷ 48 ∷ 55 ∷ []) ≡ Some 7
+unfolding decimal_of is_numeral all_digits spelled
 leading_zeros = refl
 
-largest_number : decimal_of (49 ∷ 56 ∷ 52 ∷ 52 ∷ 54 ∷ 55 ∷ 52 ∷ 52 ∷ 48 ∷ 55 ∷ 51 ∷ 55 ∷ 48 ∷ 57 ∷ 53 ∷ 53 ∷ 49 ∷ 54 ∷ 49 ∷ 53 ∷ []) ≡ Value 18446744073709551615
-unfolding decimal_of is_numeral all_digits is_digit spelled
+largest_number : decimal_of (49 ∷ 56 ∷ 52 ∷ 52 ∷ 54 ∷ 55 ∷ 52 ∷ 52 ∷ 48 ∷ 55 ∷ 51 ∷ 55 ∷ 48 ∷ 57 ∷ 53 ∷ 53 ∷ 49 ∷ 54 ∷ 49 ∷ 53 ∷ []) ≡ Some 18446744073709551615
+unfolding decimal_of is_numeral all_digits spelled
 largest_number = refl
 
-one_too_large : decimal_of (49 ∷ 56 ∷ 52 ∷ 52 ∷ 54 ∷ 55 ∷ 52 ∷ 52 ∷ 48 ∷ 55 ∷ 51 ∷ 55 ∷ 48 ∷ 57 ∷ 53 ∷ 53 ∷ 49 ∷ 54 ∷ 49 ∷ 54 ∷ []) ≡ NoNumber
-unfolding decimal_of is_numeral all_digits is_digit spelled
+one_too_large : decimal_of (49 ∷ 56 ∷ 52 ∷ 52 ∷ 54 ∷ 55 ∷ 52 ∷ 52 ∷ 48 ∷ 55 ∷ 51 ∷ 55 ∷ 48 ∷ 57 ∷ 53 ∷ 53 ∷ 49 ∷ 54 ∷ 49 ∷ 54 ∷ []) ≡ None
+unfolding decimal_of is_numeral all_digits spelled
 one_too_large = refl
 
-empty_word : decimal_of [] ≡ NoNumber
+empty_word : decimal_of [] ≡ None
 unfolding decimal_of is_numeral
 empty_word = refl
 
-colon_word : decimal_of (49 ∷ 58 ∷ []) ≡ NoNumber
-unfolding decimal_of is_numeral all_digits is_digit spelled
+colon_word : decimal_of (49 ∷ 58 ∷ []) ≡ None
+unfolding decimal_of is_numeral all_digits spelled
 colon_word = refl
 
 -- 0,3 is the pattern 9; 0, is no list; 64 is column 63; - and nothing are none
-two_columns : columns_of (48 ∷ 44 ∷ 51 ∷ []) ≡ Columns 9
-unfolding columns_of named with_column parts before_first same_bytes decimal_of is_numeral all_digits is_digit spelled pack bit
+two_columns : columns_of (48 ∷ 44 ∷ 51 ∷ []) ≡ Some 9
+unfolding named with_column parts before_first same_bytes decimal_of is_numeral all_digits spelled pack bit
 two_columns = refl
 
-comma_left : columns_of (48 ∷ 44 ∷ []) ≡ NoList
-unfolding columns_of named with_column parts before_first same_bytes decimal_of is_numeral all_digits is_digit spelled pack bit
+comma_left : columns_of (48 ∷ 44 ∷ []) ≡ None
+unfolding named with_column parts before_first same_bytes decimal_of is_numeral all_digits spelled pack bit
 comma_left = refl
 
-far_column : columns_of (54 ∷ 52 ∷ []) ≡ Columns (2 ^ 63)
-unfolding columns_of named with_column parts before_first same_bytes decimal_of is_numeral all_digits is_digit spelled pack bit
+far_column : columns_of (54 ∷ 52 ∷ []) ≡ Some (2 ^ 63)
+unfolding named with_column parts before_first same_bytes decimal_of is_numeral all_digits spelled pack bit
 far_column = refl
 
-dash : columns_of (45 ∷ []) ≡ Columns 0
-unfolding columns_of same_bytes
+dash : columns_of (45 ∷ []) ≡ Some 0
+unfolding same_bytes
 dash = refl
 
 -- an import of no file gets usage; one file is enough, and more are taken
 no_file : command_of (import_name ∷ [] ∷ []) ≡ Usage
-unfolding command_of asks_for asks_from short_command same_bytes
+unfolding same_bytes
 no_file = refl
 
 one_file : command_of (import_name ∷ [] ∷ [] ∷ []) ≡ Import
-unfolding command_of asks_for asks_from same_bytes
+unfolding same_bytes
 one_file = refl
 
 more_files : command_of (import_name ∷ [] ∷ [] ∷ [] ∷ [] ∷ [] ∷ [] ∷ []) ≡ Import
-unfolding command_of asks_for asks_from same_bytes
+unfolding same_bytes
 more_files = refl

@@ -1,5 +1,4 @@
 pub mod Cutting
-pub mod Comparing
 pub mod Spelling
 pub mod Listing
 pub mod Commands

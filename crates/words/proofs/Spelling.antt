@@ -1,104 +1,69 @@
 -- Laws of decimal numbers.
 -- Assumes nothing.
-use Prim.Native.Nat.{ℕ, suc, ◌+◌, ◌-◌, ◌*◌, ◌/◌, ◌^◌, ◌<◌, ◌≤◌}
-use mathlib.Core.Bool.{Bool, true, false, ◌&&◌}
-use mathlib.Core.List.{List, [], ◌∷◌}
-use mathlib.Core.Path.{◌≡◌, refl, sym, ap, subst, ◌∙◌}
-use native.Mathlib.Numerals.{add-one}
-use native.Mathlib.Omega.{arith}
-use lib.Dec.{leb, ltb}
-use lib.ListN.{length, get_or, drop, drop_of_length-le}
-use lib.Seq.{drop-cons}
-use borrow.Author.Tests.{le-leb, lt-leb, lt-ltb, le-ltb, leb-true}
+use Rattle.std.proofs.Common.{◌≡◌, ℕ, ◌+◌, ◌-◌, ◌*◌, ◌^◌, ◌<◌, ◌≤◌, Bool, true, false, ◌&&◌, Option, Some, None, List, [], ◌∷◌, length, get_or, drop, refl, sym, ◌∙◌, add-one, arith}
+use Rattle.std.proofs.Math.Dec.{ltb}
+use Rattle.std.proofs.Math.ListN.{drop_of_length-le}
+use Rattle.std.proofs.Math.Seq.{drop-cons}
+use borrow.Author.Tests.{lt-ltb, le-ltb}
 use Rattle.laws.specs.Choose.{choose}
-use Rattle.words.specs.Decimal.{is_digit, digit_or_ten, all_digits, is_numeral, spelled, decimal_of}
-use Rattle.words.specs.declared.Number.TheVariants.{Value, NoNumber}
+use Rattle.words.specs.Decimal.{is_digit, digit_of, all_digits, is_numeral, spelled, decimal_of}
 
-pub no_low : (c : ℕ) → c < 48 → 10 ≡ digit_or_ten c
-unfolding digit_or_ten is_digit
-no_low c h = simp (lt-leb 48 c h)
+-- what n becomes when the digits of s are written behind it, if s is digits and the number is one of 64 bits
+abbrev pub behind : ℕ → List ℕ → Option ℕ
+behind n s = choose (all_digits s && ltb (spelled n s) (2 ^ 64)) (Some (spelled n s)) None
 
-pub no_high : (c : ℕ) → 48 ≤ c → 57 < c → 10 ≡ digit_or_ten c
-unfolding digit_or_ten is_digit
-no_high c g h = simp (le-leb 48 c g, lt-leb c 57 h)
+pub no_word : (s : List ℕ) → length s ≡ 0 → None ≡ decimal_of s
+unfolding decimal_of is_numeral
+no_word [] h = refl
+no_word (c ∷ s) h = absurd (omega arith)
 
-pub a_digit : (c : ℕ) → 48 ≤ c → c ≤ 57 → c - 48 ≡ digit_or_ten c
-unfolding digit_or_ten is_digit
-a_digit c g h = simp (le-leb 48 c g, le-leb c 57 h)
-
--- what a byte is, by the number that stands for it
-digit_is : (c d : ℕ) → d ≡ digit_or_ten c → d ≤ 9 → (is_digit c ≡ true) × (d ≡ c - 48)
-unfolding digit_or_ten
-digit_is c d e h = go (is_digit c) e
-  where
-    go : (t : Bool) → d ≡ choose t (c - 48) 10 → (t ≡ true) × (d ≡ c - 48)
-    go true f = (refl, f)
-    go false f = absurd (omega arith)
-
-digit_not : (c d : ℕ) → d ≡ digit_or_ten c → 9 < d → is_digit c ≡ false
-unfolding digit_or_ten is_digit
-digit_not c d e h = go (leb 48 c) (leb c 57) (leb-true c 57) e
-  where
-    go : (a b : Bool) → (b ≡ true → c ≤ 57) → d ≡ choose (a && b) (c - 48) 10 → (a && b) ≡ false
-    go true true l f = absurd (omega (arith, l refl))
-    go true false l f = refl
-    go false b l f = refl
-
--- ---- digits behind a number
+pub nothing_behind : (s : List ℕ) → (length s ≡ 0 → ⊥) → behind 0 (drop 0 s) ≡ decimal_of s
+unfolding decimal_of is_numeral all_digits
+nothing_behind [] z = absurd (z refl)
+nothing_behind (c ∷ s) z = refl
 
 spelled_low : (s : List ℕ) (n : ℕ) → n ≤ spelled n s
 unfolding spelled
 spelled_low [] n = omega arith
 spelled_low (c ∷ s) n = omega (arith, spelled_low s (n * 10 + (c - 48)))
 
-numeral_is : (s : List ℕ) → (length s ≡ 0 → ⊥) → is_numeral s ≡ all_digits s
-unfolding is_numeral
-numeral_is [] n = absurd (n refl)
-numeral_is (c ∷ s) n = refl
+large : (n : ℕ) (s : List ℕ) → 2 ^ 64 ≤ n → None ≡ behind n s
+large n s h = go (all_digits s) (le-ltb (spelled n s) (2 ^ 64) (omega (arith, spelled_low s n)))
+  where
+    go : (t : Bool) → ltb (spelled n s) (2 ^ 64) ≡ false → None ≡ choose (t && ltb (spelled n s) (2 ^ 64)) (Some (spelled n s)) None
+    go true e = rw e
+    go false e = refl
 
-module _ (s : List ℕ) (i : ℕ) (h : i < length s) (c d n : ℕ) (is : c ≡ get_or s i 0) (e : d ≡ digit_or_ten c) where
-  pub digits_more : d ≤ 9 → all_digits s ≡ all_digits (drop i s) → all_digits s ≡ all_digits (drop (i + 1) s)
+-- a byte, and a number with it written behind
+module _ (n c d : ℕ) (s : List ℕ) where
+  other_behind : None ≡ digit_of c → None ≡ behind n (c ∷ s)
   unfolding all_digits
-  digits_more g a =
-      let t : is_digit (get_or s i 0) ≡ true = subst (λ (x : ℕ). is_digit x ≡ true) is (digit_is c d e g).0 in
-      a ∙ rw (add-one, drop-cons s i 0) (rw t)
-
-  pub spelled_more : d ≤ 9 → spelled 0 s ≡ spelled n (drop i s) → spelled 0 s ≡ spelled (n * 10 + d) (drop (i + 1) s)
-  unfolding spelled
-  spelled_more g a =
-      let t : get_or s i 0 - 48 ≡ d = ap (λ (x : ℕ). x - 48) (sym is) ∙ sym (digit_is c d e g).1 in
-      a ∙ rw (add-one, drop-cons s i 0) (ap (λ (x : ℕ). spelled (n * 10 + x) (drop (suc i) s)) t)
-
-  pub no_digit : 9 < d → all_digits s ≡ all_digits (drop i s) → NoNumber ≡ decimal_of s
-  unfolding decimal_of all_digits
-  no_digit g a =
-      let t : is_digit (get_or s i 0) ≡ false = subst (λ (x : ℕ). is_digit x ≡ false) is (digit_not c d e g) in
-      let f : all_digits s ≡ false = a ∙ rw (drop-cons s i 0) (rw t) in
-      let l : is_numeral s ≡ false = numeral_is s (λ z. omega arith) ∙ f in
-      rw l
-
-  pub too_large : d ≤ 9 → spelled 0 s ≡ spelled n (drop i s) → (18446744073709551615 - d) / 10 < n → NoNumber ≡ decimal_of s
-  unfolding decimal_of
-  too_large g a l =
-      let m = spelled_more g a in
-      let k : 2 ^ 64 ≤ spelled 0 s = omega (arith, m, spelled_low (drop (i + 1) s) (n * 10 + d)) in
-      let f : ltb (spelled 0 s) (2 ^ 64) ≡ false = le-ltb (spelled 0 s) (2 ^ 64) k in
-      go (is_numeral s) f
+  other_behind e = go (is_digit c) e
     where
-      go : (t : Bool) → ltb (spelled 0 s) (2 ^ 64) ≡ false → NoNumber ≡ choose (t && ltb (spelled 0 s) (2 ^ 64)) (Value (spelled 0 s)) NoNumber
-      go true f = rw f
+      go : (t : Bool) → None ≡ choose t (Some (c - 48)) None → None ≡ choose (t && all_digits s && ltb (spelled n (c ∷ s)) (2 ^ 64)) (Some (spelled n (c ∷ s))) None
+      go true f = cc
       go false f = refl
 
-pub no_word : (s : List ℕ) → length s ≡ 0 → NoNumber ≡ decimal_of s
-unfolding decimal_of is_numeral
-no_word [] h = refl
-no_word (c ∷ s) h = absurd (omega arith)
+  digit_behind : Some d ≡ digit_of c → behind n (c ∷ s) ≡ behind (n * 10 + d) s
+  unfolding all_digits spelled
+  digit_behind e = go (is_digit c) e
+    where
+      go : (t : Bool) → Some d ≡ choose t (Some (c - 48)) None
+          → choose (t && all_digits s && ltb (spelled (n * 10 + (c - 48)) s) (2 ^ 64)) (Some (spelled (n * 10 + (c - 48)) s)) None ≡ behind (n * 10 + d) s
+      go true f = let g : c - 48 ≡ d = cc in rw g
+      go false f = cc
 
-pub spelled_all : (s : List ℕ) (i n : ℕ) → (length s ≡ 0 → ⊥) → length s ≤ i → n < 2 ^ 64
-    → all_digits s ≡ all_digits (drop i s) → spelled 0 s ≡ spelled n (drop i s) → Value n ≡ decimal_of s
-unfolding decimal_of all_digits spelled
-spelled_all s i n z h l a e =
-    let f : all_digits s ≡ true = a ∙ rw (drop_of_length-le s h) in
-    let v : spelled 0 s ≡ n = e ∙ rw (drop_of_length-le s h) in
-    let g : is_numeral s ≡ true = numeral_is s z ∙ f in
-    rw (g, v) (rw (lt-ltb n (2 ^ 64) l))
+-- from place i of a word on
+module _ (s : List ℕ) (i n : ℕ) (h : i < length s) (so_far : behind n (drop i s) ≡ decimal_of s) where
+  pub no_digit : None ≡ digit_of (get_or s i 0) → None ≡ decimal_of s
+  no_digit e = other_behind n (get_or s i 0) 0 (drop (i + 1) s) e ∙ rw (add-one, ← drop-cons s i 0) so_far
+
+  pub one_more : (d : ℕ) → Some d ≡ digit_of (get_or s i 0) → behind (n * 10 + d) (drop (i + 1) s) ≡ decimal_of s
+  one_more d e = sym (digit_behind n (get_or s i 0) d (drop (i + 1) s) e) ∙ rw (add-one, ← drop-cons s i 0) so_far
+
+  pub too_large : (d : ℕ) → Some d ≡ digit_of (get_or s i 0) → 2 ^ 64 ≤ n * 10 + d → None ≡ decimal_of s
+  too_large d e l = large (n * 10 + d) (drop (i + 1) s) l ∙ one_more d e
+
+pub all_behind : (s : List ℕ) (i n : ℕ) → length s ≤ i → n < 2 ^ 64 → behind n (drop i s) ≡ decimal_of s → Some n ≡ decimal_of s
+unfolding all_digits spelled
+all_behind s i n h l e = sym (rw (drop_of_length-le s h) (rw (lt-ltb n (2 ^ 64) l))) ∙ e

@@ -1,12 +1,8 @@
 -- "LOST a list of columns such as 0,3".
 -- Assumes nothing.
-use Rattle.std.specs.Prelude.{ℕ, min, List, [], ◌∷◌, eqb}
+use Rattle.std.specs.Prelude.{ℕ, min, Option, Some, None, List, [], ◌∷◌, eqb}
 use Rattle.laws.specs.Bit.{bit, pack}
 use Rattle.laws.specs.Choose.{choose}
-use Rattle.words.specs.declared.Number.{Number}
-use Rattle.words.specs.declared.Number.TheVariants.{Value, NoNumber}
-use Rattle.words.specs.declared.Lost.{Lost}
-use Rattle.words.specs.declared.Lost.TheVariants.{Columns, NoList}
 use Rattle.words.specs.Words.{parts, same_bytes}
 use Rattle.words.specs.Decimal.{decimal_of}
 
@@ -15,15 +11,15 @@ unfoldable pub with_column : ℕ → ℕ → ℕ
 with_column w n = pack 64 (λ i. choose (eqb i (min n 63)) 1 (bit w i))
 
 -- a word that is no number makes no list
-abbrev pub then_named : Number → (ℕ → Lost) → Lost
-then_named (Value n) f = f n
-then_named NoNumber f = NoList
+abbrev pub then_named : Option ℕ → (ℕ → Option ℕ) → Option ℕ
+then_named (Some n) f = f n
+then_named None f = None
 
 -- the pattern w with the columns that the words name
-unfoldable pub named : List (List ℕ) → ℕ → Lost
-named [] w = Columns w
+unfoldable pub named : List (List ℕ) → ℕ → Option ℕ
+named [] w = Some w
 named (s ∷ ss) w = then_named (decimal_of s) (λ n. named ss (with_column w n))
 
 -- the columns between the commas (byte 44); an empty word and `-` (byte 45) name none
-unfoldable pub columns_of : List ℕ → Lost
-columns_of s = choose (same_bytes s []) (Columns 0) (choose (same_bytes s (45 ∷ [])) (Columns 0) (named (parts 44 s) 0))
+abbrev pub columns_of : List ℕ → Option ℕ
+columns_of s = choose (same_bytes s []) (Some 0) (choose (same_bytes s (45 ∷ [])) (Some 0) (named (parts 44 s) 0))

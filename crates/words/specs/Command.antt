@@ -3,12 +3,8 @@
 -- request 4: "export IMAGE COLUMN FILE", "import IMAGE FILE..";
 -- "words that are no number, numbers above 2^64 - 1, missing or surplus words get one line of usage".
 -- Assumes nothing.
-use Rattle.std.specs.Prelude.{ℕ, ◌^◌, Bool, ◌&&◌, List, [], ◌∷◌, eqb, ltb, leb, length, get_or}
+use Rattle.std.specs.Prelude.{ℕ, ◌^◌, Bool, ◌&&◌, Option, Some, None, List, [], ◌∷◌, eqb, ltb, leb, length, get_or}
 use Rattle.laws.specs.Choose.{choose}
-use Rattle.words.specs.declared.Number.{Number}
-use Rattle.words.specs.declared.Number.TheVariants.{Value, NoNumber}
-use Rattle.words.specs.declared.Lost.{Lost}
-use Rattle.words.specs.declared.Lost.TheVariants.{Columns, NoList}
 use Rattle.words.specs.declared.Command.{Command}
 use Rattle.words.specs.declared.Command.TheVariants.{Make, Check, Refill, Write, Rebuild, Show, Export, Import, Report, Help, Usage}
 use Rattle.words.specs.Words.{same_bytes}
@@ -47,51 +43,52 @@ abbrev pub help_name : List ℕ
 help_name = 104 ∷ 101 ∷ 108 ∷ 112 ∷ []
 
 -- the words are n, and the first is the name
-unfoldable pub asks_for : List (List ℕ) → List ℕ → ℕ → Bool
+abbrev pub asks_for : List (List ℕ) → List ℕ → ℕ → Bool
 asks_for ws name n = eqb (length ws) n && same_bytes (get_or ws 0 []) name
 
 -- the words are n or more, and the first is the name
-unfoldable pub asks_from : List (List ℕ) → List ℕ → ℕ → Bool
+abbrev pub asks_from : List (List ℕ) → List ℕ → ℕ → Bool
 asks_from ws name n = leb n (length ws) && same_bytes (get_or ws 0 []) name
 
 -- a word that is no number gets usage, and so does one that is no list of columns
-abbrev pub with_number : Number → (ℕ → Command) → Command
-with_number (Value n) f = f n
-with_number NoNumber f = Usage
+abbrev pub with_value : Option ℕ → (ℕ → Command) → Command
+with_value (Some n) f = f n
+with_value None f = Usage
 
-abbrev pub with_columns : Lost → (ℕ → Command) → Command
-with_columns (Columns w) f = f w
-with_columns NoList f = Usage
+-- a line that asks for no command gets usage
+abbrev pub or_usage : Option Command → Command
+or_usage (Some c) = c
+or_usage None = Usage
 
 -- word i as a number, and as a list of columns
-abbrev pub number_in : List (List ℕ) → ℕ → Number
+abbrev pub number_in : List (List ℕ) → ℕ → Option ℕ
 number_in ws i = decimal_of (get_or ws i [])
 
-abbrev pub columns_in : List (List ℕ) → ℕ → Lost
+abbrev pub columns_in : List (List ℕ) → ℕ → Option ℕ
 columns_in ws i = columns_of (get_or ws i [])
 
-unfoldable pub make_words : List (List ℕ) → Command
+abbrev pub make_words : List (List ℕ) → Command
 make_words ws =
-    with_number (number_in ws 1) (λ p. with_number (number_in ws 2) (λ k. with_number (number_in ws 3) (λ r. with_number (number_in ws 4) (λ b. Make p k r b))))
+    with_value (number_in ws 1) (λ p. with_value (number_in ws 2) (λ k. with_value (number_in ws 3) (λ r. with_value (number_in ws 4) (λ b. Make p k r b))))
 
 -- a base is a revision, a number of 32 bits; "`write` takes an optional last word LOST": where it is not there, no column is lost
-unfoldable pub write_words : List (List ℕ) → Command
+abbrev pub write_words : List (List ℕ) → Command
 write_words ws =
-    with_number (number_in ws 2) (λ column. with_number (number_in ws 3) (λ row. with_number (number_in ws 4) (λ base.
-    choose (ltb base (2 ^ 32)) (with_columns (columns_in ws 6) (λ lost. Write column row base lost)) Usage)))
+    with_value (number_in ws 2) (λ column. with_value (number_in ws 3) (λ row. with_value (number_in ws 4) (λ base.
+    choose (ltb base (2 ^ 32)) (with_value (columns_in ws 6) (λ lost. Write column row base lost)) Usage)))
 
-unfoldable pub rebuild_words : List (List ℕ) → Command
-rebuild_words ws = with_columns (columns_in ws 2) (λ lost. Rebuild lost)
+abbrev pub rebuild_words : List (List ℕ) → Command
+rebuild_words ws = with_value (columns_in ws 2) (λ lost. Rebuild lost)
 
-unfoldable pub show_words : List (List ℕ) → Command
+abbrev pub show_words : List (List ℕ) → Command
 show_words ws =
-    with_columns (columns_in ws 2) (λ lost. with_number (number_in ws 3) (λ column. with_number (number_in ws 4) (λ row. Show lost column row)))
+    with_value (columns_in ws 2) (λ lost. with_value (number_in ws 3) (λ column. with_value (number_in ws 4) (λ row. Show lost column row)))
 
-unfoldable pub export_words : List (List ℕ) → Command
-export_words ws = with_number (number_in ws 2) (λ column. Export column)
+abbrev pub export_words : List (List ℕ) → Command
+export_words ws = with_value (number_in ws 2) (λ column. Export column)
 
 -- check, refill, report, help
-unfoldable pub short_command : List (List ℕ) → Command
+abbrev pub short_command : List (List ℕ) → Command
 short_command ws =
     choose (asks_for ws check_name 2) Check
     (choose (asks_for ws refill_name 2) Refill
@@ -100,7 +97,7 @@ short_command ws =
     Usage)))
 
 -- make, write, rebuild, show, export, import with one file or more, then those
-unfoldable pub command_of : List (List ℕ) → Command
+abbrev pub command_of : List (List ℕ) → Command
 command_of ws =
     choose (asks_for ws make_name 7) (make_words ws)
     (choose (asks_for ws write_name 6) (write_words ws)

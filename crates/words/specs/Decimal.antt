@@ -1,17 +1,15 @@
 -- "Numbers in decimal; words that are no number, numbers above 2^64 - 1 .. get one line of usage".
 -- Assumes nothing.
-use Rattle.std.specs.Prelude.{ℕ, ◌+◌, ◌-◌, ◌*◌, ◌^◌, Bool, true, false, ◌&&◌, List, [], ◌∷◌, leb, ltb}
+use Rattle.std.specs.Prelude.{ℕ, ◌+◌, ◌-◌, ◌*◌, ◌^◌, Bool, true, false, ◌&&◌, Option, Some, None, List, [], ◌∷◌, leb, ltb}
 use Rattle.laws.specs.Choose.{choose}
-use Rattle.words.specs.declared.Number.{Number}
-use Rattle.words.specs.declared.Number.TheVariants.{Value, NoNumber}
 
 -- a byte is one of the ten digits, 48 to 57
-unfoldable pub is_digit : ℕ → Bool
+abbrev pub is_digit : ℕ → Bool
 is_digit c = leb 48 c && leb c 57
 
--- the digit that a byte is, or 10
-unfoldable pub digit_or_ten : ℕ → ℕ
-digit_or_ten c = choose (is_digit c) (c - 48) 10
+-- the digit that a byte is, if it is one
+abbrev pub digit_of : ℕ → Option ℕ
+digit_of c = choose (is_digit c) (Some (c - 48)) None
 
 unfoldable pub all_digits : List ℕ → Bool
 all_digits [] = true
@@ -27,6 +25,6 @@ unfoldable pub spelled : ℕ → List ℕ → ℕ
 spelled n [] = n
 spelled n (c ∷ s) = spelled (n * 10 + (c - 48)) s
 
--- the number that a word is
-unfoldable pub decimal_of : List ℕ → Number
-decimal_of s = choose (is_numeral s && ltb (spelled 0 s) (2 ^ 64)) (Value (spelled 0 s)) NoNumber
+-- the number that a word is, if it is one
+unfoldable pub decimal_of : List ℕ → Option ℕ
+decimal_of s = choose (is_numeral s && ltb (spelled 0 s) (2 ^ 64)) (Some (spelled 0 s)) None

@@ -1,13 +1,8 @@
 -- `words::columns` meets its contract.
 -- Assumes nothing.
-use Rattle.words.proofs.Listing.{dash_listed, none_listed, some_listed}
+use Rattle.std.proofs.Common.{◌∙◌, arith}
+use Rattle.words.proofs.Listing.{some_listed}
 use Rattle.words.proofs.columns.Goals as goal
 
-pub returns-then-word-eq0 : goal.returns-then-word-eq0
-returns-then-word-eq0 c = search none_listed
-
-pub returns-then-same : goal.returns-then-same
-returns-then-same c = search dash_listed
-
 pub returns : goal.returns
-returns c = search some_listed
+returns c = c.listed.ensures ∙ some_listed c.args.word.now (λ z. grind arith) (grind arith)

@@ -1,13 +1,11 @@
 -- `words::count` meets its contract.
 -- Assumes nothing.
-use native.Mathlib.Omega.{arith}
-use Rattle.words.proofs.Cutting.{count_all, count_marked, count_left}
+use Rattle.std.proofs.Common.{rules, tests}
+use Rattle.std.proofs.lemmas.Iterator.Consumers.{count_from_yields_List}
+use Rattle.words.proofs.Cutting.{parts_yielded}
 use Rattle.words.proofs.count.Goals as goal
-use Rattle.words.proofs.count.Goals.{then-line-i, else-line-i}
-
-pub loop-i-preserved : goal.loop-i-preserved
-loop-i-preserved c =
-    elim c.if-line-i.branch [ then-line-i w ↦ (omega arith, omega arith, search count_marked) | else-line-i w ↦ (omega arith, omega arith, search count_left) ]
 
 pub returns : goal.returns
-returns c = search count_all
+returns c =
+    count_from_yields_List c.split.result _ c.count.ensures.ran
+    (parts_yielded _ c.args.mark c.args.line.now c.split.ensures.rest c.split.ensures.done c.split.ensures.closure (λ x r q k. search (rules, tests)))

@@ -1,17 +1,17 @@
 -- `words::same` meets its contract.
 -- Assumes nothing.
-use native.Mathlib.Omega.{arith}
-use Rattle.words.proofs.Comparing.{same_all, same_more, unlike_lengths, same_not}
+use Rattle.std.proofs.Common.{◌≡◌, ◌∙◌, ℕ, Bool, ◌&&◌, List, [], ◌∷◌, ap, refl}
+use Rattle.std.proofs.Math.Dec.{eqb}
+use Rattle.std.specs.Cmp.Lexicographic.{pointwise}
+use Rattle.words.specs.Words.{same_bytes}
 use Rattle.words.proofs.same.Goals as goal
 
-pub returns-then-a-b : goal.returns-then-a-b
-returns-then-a-b c = search unlike_lengths
-
-pub returns-then-a-i : goal.returns-then-a-i
-returns-then-a-i c = search same_not
-
-pub loop-i-preserved : goal.loop-i-preserved
-loop-i-preserved c = (omega arith, omega arith, search same_more)
+compared : (s t : List ℕ) → pointwise eqb s t ≡ same_bytes s t
+unfolding same_bytes
+compared [] [] = refl
+compared [] (y ∷ t) = refl
+compared (x ∷ s) [] = refl
+compared (x ∷ s) (y ∷ t) = ap (λ (b : Bool). eqb x y && b) (compared s t)
 
 pub returns : goal.returns
-returns c = search same_all
+returns c = c.eq.ensures ∙ compared c.args.a.now c.args.b.now
