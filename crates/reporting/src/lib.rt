@@ -1,20 +1,21 @@
 // The report of an image: what it is, the revision of each data column, each parity right or wrong.
-// It is put together in a buffer and written at once.
+// It is put together in a text of fixed room and written at once.
 #![tactic(auto)]
 
-ghost use Rattle.std.specs.Prelude.{◌≡◌, ◌+◌, ◌*◌, ◌<◌, ◌≤◌, length, take, IfOk, IfSome, OnOk};
+ghost use Rattle.std.specs.Prelude.{◌≡◌, ◌<◌, ◌≤◌, length, IfSome, OnOk, Some};
+ghost use Rattle.std.specs.Fmt.{WritesOnOk};
 ghost use Rattle.std.specs.Io.KnownBytes.{Appends};
 ghost use Rattle.stripe.specs.Reading.{Image};
-ghost use Rattle.texts.specs.Text.{Put, Holds};
-ghost use Rattle.reporting.specs.Inner.{line_room, report_room, is_clear};
-ghost use Rattle.reporting.specs.Report.{refused_line, stripe_line, lines, data_line, parity_line, lines_of, report_of};
+ghost use Rattle.reporting.specs.Inner.{is_clear};
+ghost use Rattle.reporting.specs.Report.{verdict, lines, data_line, parity_line, lines_of, report_of};
 
+use arrayvec::ArrayString;
 use parity::Checkup;
 use refusal::Refusal;
-use std::io;
+use std::fmt::Write as _;
 use std::io::{Read, Write};
+use std::{fmt, io};
 use stripe::{Params, Reading};
-use texts::{put, put_last, put_last_pair, put_number};
 
 // The longest input that is taken.
 const LONGEST: usize = 65536;
@@ -25,116 +26,79 @@ const LINE: usize = 96;
 // Room for a report: a line of the parameters, and one for each of k + r columns, which are at most p.
 const ROOM: usize = (1 + Params::LARGEST_PRIME) * LINE;
 
-// Puts the line of a refusal at the start of a buffer.
-fn put_refused(out: &mut [u8], e: Refusal) -> usize
-    requires { line_room ≤ length out.old }
-    ensures { Put out.old out.new 0 result (refused_line e) }
+// Writes a line for each data column.
+fn write_data<W: fmt::Write>(f: &mut fmt::Formatter<W>, image: &[u8], q: Params) -> fmt::Result
+    requires { Image image.now q }
+    ensures { WritesOnOk W.write_str_gives f.old result (lines q.k (data_line image.now)) f.new }
 {
-    let a = put(out, 0, b"refused");
-    put_last(out, a, e.number())
-}
-
-// Puts the line of the parameters at the start of a buffer.
-fn put_stripe(out: &mut [u8], q: Params) -> usize
-    requires { line_room ≤ length out.old }
-    ensures put { Put out.old out.new 0 result (stripe_line q) }
-    ensures upper_bound { result ≤ line_room }
-{
-    let a = put(out, 0, b"stripe");
-    let b = put_number(out, a, q.p as u64);
-    let c = put_number(out, b, q.k as u64);
-    put_last_pair(out, c, q.r as u64, q.b as u64)
-}
-
-// Puts the line of data column i behind the first n bytes of a buffer.
-fn put_data(out: &mut [u8], n: usize, image: &[u8], q: Params, i: usize) -> usize
-    requires { Image image.now q × (i < q.k) × (n + line_room ≤ length out.old) }
-    ensures put { Put out.old out.new n result (data_line image.now i) }
-    ensures upper_bound { result ≤ n + line_room }
-{
-    let revision = stripe::u32_at(image, q.revision_at(i));
-    let a = put(out, n, b"data");
-    put_last_pair(out, a, i as u64, revision as u64)
-}
-
-// The same with a line for each data column.
-fn put_data_lines(out: &mut [u8], n: usize, image: &[u8], q: Params) -> usize
-    requires { Image image.now q × (n + q.k * line_room ≤ length out.old) }
-    ensures put { Put out.old out.new n result (lines q.k (data_line image.now)) }
-    ensures upper_bound { result ≤ n + q.k * line_room }
-{
-    let k = q.k;
-    let mut at = n;
-    let mut i: usize = 0;
-    while i < k {
-        at = put_data(out, at, image, q, i);
-        i += 1;
+    for i in 0..q.k {
+        let revision = stripe::u32_at(image, q.revision_at(i));
+        writeln!(f, "data {i} {revision}")?;
     }
-    at
+    Ok(())
 }
 
-// Puts the line of parity j behind the first n bytes of a buffer, right or wrong as the word of wrong parities has it.
-fn put_parity(out: &mut [u8], n: usize, wrong: u64, j: usize) -> usize
-    requires { (j < 64) × (n + line_room ≤ length out.old) }
-    ensures put { Put out.old out.new n result (parity_line (is_clear wrong) j) }
-    ensures upper_bound { result ≤ n + line_room }
+// Whether parity j is right, as the word of wrong parities has it.
+#[tactic(auto, unfolding(crate::specs::Inner::is_clear, laws::specs::Bit::bit))]
+fn verdict(wrong: u64, j: usize) -> &'static str
+    requires { j < 64 }
+    ensures { result.now ≡ verdict (is_clear wrong j) }
 {
-    let a = put(out, n, b"parity");
-    let b = put_number(out, a, j as u64);
-    if (wrong >> j) % 2 == 0 {
-        return put(out, b, b" right\n");
+    if (wrong >> j) % 2 == 0 { "right" } else { "wrong" }
+}
+
+// Writes a line for each of r parities.
+fn write_parities<W: fmt::Write>(f: &mut fmt::Formatter<W>, wrong: u64, r: usize) -> fmt::Result
+    requires { r ≤ 61 }
+    ensures { WritesOnOk W.write_str_gives f.old result (lines r (parity_line (is_clear wrong))) f.new }
+{
+    for j in 0..r {
+        writeln!(f, "parity {j} {}", verdict(wrong, j))?;
     }
-    put(out, b, b" wrong\n")
+    Ok(())
 }
 
-// The same with a line for each of r parities.
-fn put_parity_lines(out: &mut [u8], n: usize, wrong: u64, r: usize) -> usize
-    requires { (r ≤ 61) × (n + r * line_room ≤ length out.old) }
-    ensures { Put out.old out.new n result (lines r (parity_line (is_clear wrong))) }
-{
-    let mut at = n;
-    let mut j: usize = 0;
-    while j < r {
-        at = put_parity(out, at, wrong, j);
-        j += 1;
+// An image of any length, shown as its report, or as its refusal.
+#[derive(Clone, Copy)]
+struct ImageReport<'a>(&'a [u8]);
+
+impl fmt::Display for ImageReport<'_> {
+    ghost output = { λ x. Some (lines_of x.0.now) };
+
+    fn fmt<W: fmt::Write>(&self, f: &mut fmt::Formatter<W>) -> fmt::Result {
+        let image = self.0;
+        let reading = stripe::read(image);
+        let Reading::Stripe(q) = reading else {
+            return writeln!(f, "refused {}", reading.refusal().number());
+        };
+        // Check refuses no image that reading accepts.
+        let Checkup::Wrong(wrong) = parity::check(image) else {
+            unreachable!();
+        };
+        writeln!(f, "stripe {} {} {} {}", q.p, q.k, q.r, q.b)?;
+        write_data(f, image, q)?;
+        write_parities(f, wrong, q.r)
     }
-    at
 }
 
-// Puts the report of an image, or its refusal, at the start of a buffer.
-fn put_lines(out: &mut [u8], image: &[u8]) -> usize
-    requires { report_room ≤ length out.old }
-    ensures { Holds out.new result (lines_of image.now) }
-{
-    let reading = stripe::read(image);
-    let Reading::Stripe(q) = reading else {
-        return put_refused(out, reading.refusal());
-    };
-    // Check refuses no image that reading accepts.
-    let Checkup::Wrong(wrong) = parity::check(image) else {
-        return 0;
-    };
-    let a = put_stripe(out, q);
-    let b = put_data_lines(out, a, image, q);
-    put_parity_lines(out, b, wrong, q.r)
-}
+// An input of the report program, shown likewise; LONG comes first.
+#[derive(Clone, Copy)]
+struct InputReport<'a>(&'a [u8]);
 
-// Puts the report of an input at the start of a buffer; LONG comes first.
-fn put_report(out: &mut [u8], input: &[u8]) -> usize
-    requires { report_room ≤ length out.old }
-    ensures { Holds out.new result (report_of input.now) }
-{
-    if input.len() > LONGEST {
-        return put_refused(out, Refusal::Long);
+impl fmt::Display for InputReport<'_> {
+    ghost output = { λ x. Some (report_of x.0.now) };
+
+    fn fmt<W: fmt::Write>(&self, f: &mut fmt::Formatter<W>) -> fmt::Result {
+        if self.0.len() > LONGEST {
+            return writeln!(f, "refused {}", Refusal::Long.number());
+        }
+        write!(f, "{}", ImageReport(self.0))
     }
-    put_lines(out, input)
 }
 
 // Writes the report of an image, or its refusal, on standard output.
 pub fn describe(rt: &impl Print, image: &[u8]) -> io::Result<()> {
-    let mut out = [0u8; ROOM];
-    let n = put_lines(&mut out, image);
-    rt.write_all(&out[0..n])
+    print!(rt; "{}", ImageReport(image))
 }
 
 // Writes the report of what a reader gives; one byte above the longest tells LONG.
@@ -143,9 +107,9 @@ pub fn write_report<R: Read, W: Write>(input: &mut R, output: &mut W) -> io::Res
 {
     let mut front = [0u8; LONGEST + 1];
     let n = fronts::read_front(input, &mut front)?;
-    let mut out = [0u8; ROOM];
-    let m = put_report(&mut out, &front[..n]);
-    output.write_all(&out[..m])
+    let mut text = ArrayString::<ROOM>::new();
+    write!(text, "{}", InputReport(&front[..n]))?;
+    output.write_all(text.as_bytes())
 }
 
 // The same on standard output.

@@ -1,4 +1,4 @@
--- The digits of a number: how many there are.
+-- The digits of a number: how many there are, and that std writes them.
 -- Assumes nothing.
 use Prim.Native.Nat.{ℕ, zero, suc, ◌+◌, ◌-◌, ◌/◌, ◌%◌, ◌*◌, ◌^◌, ◌<◌, ◌≤◌}
 use mathlib.Core.Bool.{Bool}
@@ -66,10 +66,7 @@ module _ (n k : ℕ) (low : 1 ≤ k) (high : n < 10 ^ k) (least : 1 < k → 10 ^
       let e = counted 19 (λ i. choose (leb (10 ^ (i + 1)) n) 1 0) (λ i. choose (ltb i (k - 1)) 1 0) (λ i l. ap (λ (b : Bool). choose b 1 0) (tested i)) in
       omega (arith, e, some_below 19 (k - 1) (omega (arith, twenty h)), twenty h)
 
-pub digits_few : (n k : ℕ) → n < 2 ^ 64 → IsDigitCount 10 1 n k → k ≤ 20
-digits_few n k h f = twenty n k f.0 f.1 f.2 h
-
-pub digits_text : (n k : ℕ) (v : List ℕ) → n < 2 ^ 64 → IsDigitCount 10 1 n k → v ≡ last_digits 10 k n → v ≡ text n
+digits_text : (n k : ℕ) (v : List ℕ) → n < 2 ^ 64 → IsDigitCount 10 1 n k → v ≡ last_digits 10 k n → v ≡ text n
 unfolding text
 digits_text n k v h f e = e ∙ ap (λ (j : ℕ). last_digits 10 j n) (places_are n k f.0 f.1 f.2 h)
 

@@ -1,7 +1,7 @@
--- What is printed, as bytes: texts, and numbers "in decimal"; and what it is to put one behind the other in a buffer.
+-- What is printed, as bytes: texts, and numbers "in decimal".
 -- Assumes nothing.
 use Prim.Native.Char.{code}
-use Rattle.std.specs.Prelude.{ℕ, ◌+◌, ◌^◌, ◌≤◌, ◌≡◌, List, [], ◌∷◌, ◌++◌, leb, length, take}
+use Rattle.std.specs.Prelude.{ℕ, ◌+◌, ◌^◌, List, [], ◌∷◌, leb}
 use Prim.Native.String.{String, [] as []ᵀ, ◌∷◌ as ◌∷ᵀ◌}
 use Rattle.io.specs.Digits.{last_digits}
 use Rattle.laws.specs.Choose.{choose}
@@ -27,13 +27,3 @@ bytes (c ∷ᵀ s) = code c ∷ bytes s
 -- the end of a line
 abbrev pub line_end : List ℕ
 line_end = bytes "\n"
-
--- t is s with v put behind its first n bytes, up to x
-pub record Put (s t : List ℕ) (n x : ℕ) (v : List ℕ) : Type 0 where
-  pub place : x ≡ n + length v
-  pub front : take x t ≡ take n s ++ v
-
--- the first n bytes of t are v, and nothing else
-pub record Holds (t : List ℕ) (n : ℕ) (v : List ℕ) : Type 0 where
-  pub within : n ≤ length t
-  pub front : take n t ≡ v
