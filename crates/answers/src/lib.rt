@@ -11,7 +11,7 @@ use revision::Age;
 use std::{fmt, io};
 
 // What a command comes to. `Said`: nothing is left to say.
-#[derive(Clone, Copy)]
+#[derive(Clone, Copy, PartialEq, Eq, Debug)]
 pub enum Answer {
     Done,
     Word(u64),

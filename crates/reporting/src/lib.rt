@@ -1,5 +1,5 @@
 // The report of an image: what it is, the revision of each data column, each parity right or wrong.
-// It is put together in a text of fixed room and written at once.
+// It is put together in a buffer of fixed room and written at once.
 #![tactic(auto)]
 
 ghost use Rattle.std.specs.Prelude.{◌≡◌, ◌<◌, ◌≤◌, length, IfSome, OnOk, Some};
@@ -9,10 +9,9 @@ ghost use Rattle.stripe.specs.Reading.{Image};
 ghost use Rattle.reporting.specs.Inner.{is_clear};
 ghost use Rattle.reporting.specs.Report.{verdict, lines, data_line, parity_line, lines_of, report_of};
 
-use arrayvec::ArrayString;
+use arrayvec::ArrayVec;
 use parity::Checkup;
 use refusal::Refusal;
-use std::fmt::Write as _;
 use std::io::{Read, Write};
 use std::{fmt, io};
 use stripe::{Params, Reading};
@@ -44,7 +43,11 @@ fn verdict(wrong: u64, j: usize) -> &'static str
     requires { j < 64 }
     ensures { result.now ≡ verdict (is_clear wrong j) }
 {
-    if (wrong >> j) % 2 == 0 { "right" } else { "wrong" }
+    if (wrong >> j) % 2 == 0 {
+        "right"
+    } else {
+        "wrong"
+    }
 }
 
 // Writes a line for each of r parities.
@@ -107,9 +110,9 @@ pub fn write_report<R: Read, W: Write>(input: &mut R, output: &mut W) -> io::Res
 {
     let mut front = [0u8; LONGEST + 1];
     let n = fronts::read_front(input, &mut front)?;
-    let mut text = ArrayString::<ROOM>::new();
+    let mut text = ArrayVec::<u8, ROOM>::new();
     write!(text, "{}", InputReport(&front[..n]))?;
-    output.write_all(text.as_bytes())
+    output.write_all(text.as_slice())
 }
 
 // The same on standard output.

@@ -1,7 +1,7 @@
 -- The digits of a number: how many there are, and that std writes them.
 -- Assumes nothing.
 use Prim.Native.Nat.{ℕ, zero, suc, ◌+◌, ◌-◌, ◌/◌, ◌%◌, ◌*◌, ◌^◌, ◌<◌, ◌≤◌}
-use mathlib.Core.Bool.{Bool}
+use mathlib.Core.Bool.{Bool, true, false}
 use mathlib.Core.List.{List, [], ◌∷◌, ◌++◌}
 use mathlib.Core.Path.{◌≡◌, refl, sym, ap, ap₂, subst, ◌∙◌}
 use native.Mathlib.Decide.{ℕ_discrete, dec_lt}
@@ -104,3 +104,22 @@ spelled_more n v h f l =
 
 pub decimal_text : (n : ℕ) → n < 2 ^ 64 → decimal n ≡ text n
 decimal_text n h = let k = decimal_by_steps Spelled spelled_one spelled_more n h h in digits_text n (length (decimal n)) (decimal n) h k.0 k.1
+
+-- ---- no text of a number is longer than 20 digits
+
+last_length : (b k n : ℕ) → length (last_digits b k n) ≡ k
+last_length b zero n = refl
+last_length b (suc k) n = omega (arith, length-append (last_digits b k (n / b)) (hex_digit_ascii (n % b) ∷ []), last_length b k (n / b))
+
+chosen_few : (m : ℕ) (t : ℕ → Bool) → total m (λ i. choose (t i) 1 0) ≤ m
+unfolding total
+chosen_few zero t = omega arith
+chosen_few (suc m) t = go (t m) (chosen_few m t)
+  where
+    go : (b : Bool) → total m (λ i. choose (t i) 1 0) ≤ m → total m (λ i. choose (t i) 1 0) + choose b 1 0 ≤ suc m
+    go true h = omega arith
+    go false h = omega arith
+
+pub text_short : (n : ℕ) → length (text n) ≤ 20
+unfolding text places
+text_short n = omega (arith, last_length 10 (places n) n, chosen_few 19 (λ i. leb (10 ^ (i + 1)) n))

@@ -11,6 +11,9 @@ unfolding lines
 loop-i-init g c = (refl, λ p. search rules)
 
 pub loop-i-preserved : goal.loop-i-preserved
-loop-i-preserved g c = (c.loop-i.invariant.0, λ p. has_written_of_eq _ _ _ _ _
-  (lines_more _ _ _ (data_text _ _ c.revision_at.result c.u32_at-revision.result (omega arith) (omega arith) c.revision_at.ensures.0 c.u32_at-revision.ensures))
-  (has_written_append _ _ _ _ _ _ (c.loop-i.invariant.1 p) (search rules)))
+loop-i-preserved g c = (
+  c.loop-i.invariant.0,
+  λ p. has_written_of_eq _ _ _ _ _
+      (lines_more _ _ _ (data_text _ _ c.revision_at.result c.u32_at-revision.result (omega arith) (omega arith) c.revision_at.ensures.0 c.u32_at-revision.ensures))
+      (has_written_append _ _ _ _ _ _ (c.loop-i.invariant.1 p) (search rules)),
+)

@@ -12,4 +12,4 @@ loop-j-init g c = λ p. search rules
 
 pub loop-j-preserved : goal.loop-j-preserved
 loop-j-preserved g c = λ p. has_written_of_eq _ _ _ _ _ (lines_more _ _ _ (parity_text _ _ _ (omega arith) c.verdict.ensures))
-  (has_written_append _ _ _ _ _ _ (c.loop-j.invariant p) (search rules))
+    (has_written_append _ _ _ _ _ _ (c.loop-j.invariant p) (search rules))

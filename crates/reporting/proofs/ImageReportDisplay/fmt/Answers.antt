@@ -10,8 +10,8 @@ use Rattle.reporting.proofs.ImageReportDisplay.fmt.Goals as goal
 
 pub returns-in_default-clause-writes : goal.returns-in_default-clause-writes
 returns-in_default-clause-writes g c = λ p o. has_written_of_eq _ _ _ _ _
-  (refused_text (refusal_given c.read-reading.result) c.number.result (omega arith) (c.number.ensures ∙ ap number_of c.refusal.ensures) ∙ lines_refused _ _ c.read-reading.ensures _ c.in_default.is)
-  (c.writeln.ensures.writes p o)
+    (refused_text (refusal_given c.read-reading.result) c.number.result (omega arith) (c.number.ensures ∙ ap number_of c.refusal.ensures) ∙ lines_refused _ _ c.read-reading.ensures _ c.in_default.is)
+    (c.writeln.ensures.writes p o)
 
 pub unreachable-requires : goal.unreachable-requires
 unreachable-requires g c = absurd (search never_unchecked)
@@ -24,7 +24,7 @@ write_parities-requires g c = search parity_few
 
 pub returns-clause-writes : goal.returns-clause-writes
 returns-clause-writes g c = λ p o.
-  let a = c.in_ok-writeln.ensures.writes p refl in
-  let b = c.in_ok-write_data.ensures a.plain refl in
-  has_written_of_eq _ _ _ _ _ (lines_told _ _ c.read-reading.ensures _ c.in-Stripe.is _ _ c.check.ensures c.in-Wrong.is _ (stripe_text _ (omega arith) (omega arith) (omega arith) (omega arith)))
-  (has_written_append _ _ _ _ _ _ a (has_written_append _ _ _ _ _ _ b (c.write_parities.ensures b.plain o)))
+    let a = c.in_ok-writeln.ensures.writes p refl in
+    let b = c.in_ok-write_data.ensures a.plain refl in
+    has_written_of_eq _ _ _ _ _ (lines_told _ _ c.read-reading.ensures _ c.in-Stripe.is _ _ c.check.ensures c.in-Wrong.is _ (stripe_text _ (omega arith) (omega arith) (omega arith) (omega arith)))
+    (has_written_append _ _ _ _ _ _ a (has_written_append _ _ _ _ _ _ b (c.write_parities.ensures b.plain o)))

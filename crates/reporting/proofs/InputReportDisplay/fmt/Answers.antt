@@ -8,7 +8,7 @@ use Rattle.reporting.proofs.InputReportDisplay.fmt.Goals as goal
 
 pub returns-then-self-gt-LONGEST-clause-writes : goal.returns-then-self-gt-LONGEST-clause-writes
 returns-then-self-gt-LONGEST-clause-writes g c = λ p o. has_written_of_eq _ _ _ _ _
-  (refused_text Long c.number.result (omega arith) c.number.ensures ∙ report_long _ c.if-self-gt-LONGEST.true) (c.writeln.ensures.writes p o)
+    (refused_text Long c.number.result (omega arith) c.number.ensures ∙ report_long _ c.if-self-gt-LONGEST.true) (c.writeln.ensures.writes p o)
 
 pub returns-clause-writes : goal.returns-clause-writes
 returns-clause-writes g c = λ p o. has_written_of_eq _ _ _ _ _ (report_lines _ c.if-self-gt-LONGEST.false) (c.write.ensures.writes p o)
