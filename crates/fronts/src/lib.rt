@@ -11,13 +11,13 @@ pub fn read_front<R: Read>(input: &mut R, buf: &mut [u8]) -> io::Result<usize>
     ensures within { IfOk result (λ n. n ≤ length buf.new) }
     ensures front { IfOk result (λ n. IfSome (R.remaining input.old) (λ s. take n buf.new ≡ take (length buf.new) s)) }
 {
-    let mut done: usize = 0;
+    let mut done = 0;
+    // Stays: the place steps by as many bytes as each read gave; `read_exact` does not tell how many came before the end.
     while done < buf.len() {
-        let n = input.read(&mut buf[done..])?;
-        if n == 0 {
-            break;
+        match input.read(&mut buf[done..])? {
+            0 => break,
+            n => done += n,
         }
-        done += n;
     }
     Ok(done)
 }

@@ -1,5 +1,5 @@
 // The report of an image: what it is, the revision of each data column, each parity right or wrong.
-// It is put together in a buffer of fixed room and written at once.
+// What the report program writes is put together in a buffer of fixed room, and written at once.
 #![tactic(auto)]
 
 ghost use Rattle.std.specs.Prelude.{◌≡◌, ◌<◌, ◌≤◌, length, IfSome, OnOk, Some};
@@ -22,7 +22,7 @@ const LONGEST: usize = 65536;
 // Room for a line: a word, four numbers of at most 20 digits with a space before each, and the line's end are 91 bytes.
 const LINE: usize = 96;
 
-// Room for a report: a line of the parameters, and one for each of k + r columns, which are at most p.
+// Room for a report: a line of the parameters, and one for each of k + r columns, which are at most p. That each report fits is `report_fits`.
 const ROOM: usize = (1 + Params::LARGEST_PRIME) * LINE;
 
 // Writes a line for each data column.
