@@ -1,15 +1,16 @@
 -- Elements by their weight, and the ways out of the public calls.
 -- Assumes nothing.
-use Prim.Native.Nat.{ℕ, ◌+◌, ◌/◌, ◌%◌, ◌^◌, ◌≤◌, ◌<◌, ◌*◌}
+use Prim.Native.Nat.{ℕ, zero, suc, ◌+◌, ◌/◌, ◌%◌, ◌^◌, ◌≤◌, ◌<◌, ◌*◌}
 use mathlib.Core.Bool.{false, Bool, true}
 use mathlib.Core.Logic.{◌≢◌}
-use mathlib.Core.Path.{◌≡◌, refl, ap, ◌∙◌, sym}
+use mathlib.Core.Path.{◌≡◌, ap, ap₂, ◌∙◌, sym}
 use native.Mathlib.Decide.{dec_lt}
-use native.Mathlib.Nat.{div-eq_of_lt, mod-lt}
-use native.Mathlib.Numerals.{add-one}
+use native.Mathlib.Nat.{div-eq_of_lt, mod-lt, mod-eq_of_lt}
 use native.Mathlib.Omega.{arith}
+use lib.Count.{ones, ones_cat, ones-ones}
 use lib.Dec.{eqb, T, leb, leb→le}
 use lib.Pow.{pow_pos, split}
+use Rattle.std.proofs.lemmas.Nat.{mod-pow-add}
 use borrow.Author.Tests.{le-ltb, lt-ltb, eq-eqb, ne_eqb}
 use Rattle.laws.proofs.Choose.{true_T, and_left, and_right}
 use Rattle.laws.specs.Bit.{weight, bit}
@@ -22,21 +23,24 @@ use Rattle.ring.specs.Answer.{product_answer, divide_answer, different}
 use Rattle.ring.specs.Ring.{Divisible, Factor}
 use Rattle.ring.specs.declared.Element.TheVariants.{Word, Refused}
 
-pub weight_start : (w : ℕ) → 0 ≡ weight w 0
-unfolding weight
-weight_start w = refl
-
-pub weight_step : (w i count : ℕ) → count ≡ weight w i → count + w / 2 ^ i % 2 ≡ weight w (i + 1)
+-- the bits of a word below n, counted
+pub ones_below : (w n : ℕ) → ones (w % 2 ^ n) ≡ weight w n
 unfolding weight bit
-weight_step w i count e = rw add-one (ap (λ (x : ℕ). x + w / 2 ^ i % 2) e)
-
-pub weight_done : (w p i count : ℕ) → count ≡ weight w i → i ≤ p → p ≤ i → count ≡ weight w p
-weight_done w p i count e h k = let z : i ≡ p = omega arith in e ∙ ap (weight w) z
+ones_below w zero = let z : w % 2 ^ 0 ≡ 0 = omega arith in ap ones z ∙ ones-ones 0
+ones_below w (suc n) =
+    let z : suc n ≡ 1 + n = omega arith in
+    ap (λ (j : ℕ). ones (w % 2 ^ j)) z ∙ ap ones (mod-pow-add w 1 n) ∙ ones_cat n (w / 2 ^ n % 2) (w % 2 ^ n) (mod-lt w (pow_pos n))
+    ∙ ap₂ (λ (x y : ℕ). x + y) (one_bit (w / 2 ^ n % 2) (mod-lt (w / 2 ^ n) (omega arith))) (ones_below w n) ∙ omega arith
+  where
+    one_bit : (d : ℕ) → d < 2 → ones d ≡ d
+    one_bit zero h = ones-ones 0
+    one_bit (suc zero) h = ones-ones 1
+    one_bit (suc (suc d)) h = absurd (omega arith)
 
 -- a bit at p or above
-pub element_high : (w p : ℕ) → (w / 2 ^ p ≡ 0 → ⊥) → false ≡ element p w
+pub element_high : (w p : ℕ) → (w / 2 ^ p ≡ 0 → ⊥) → eqb (w / 2 ^ p) 0 ≡ element p w
 unfolding element
-element_high w p n = simp (le-ltb w (2 ^ p) (high_is w p n))
+element_high w p n = rw (ne_eqb (w / 2 ^ p) 0 n) (simp (le-ltb w (2 ^ p) (high_is w p n)))
   where
     high_is : (w p : ℕ) → (w / 2 ^ p ≡ 0 → ⊥) → 2 ^ p ≤ w
     high_is w p n = go (dec_lt w (2 ^ p))
@@ -45,12 +49,16 @@ element_high w p n = simp (le-ltb w (2 ^ p) (high_is w p n))
         go (yes h) = absurd (n (div-eq_of_lt h))
         go (no h) = omega arith
 
-pub element_weighed : (w p c : ℕ) → w / 2 ^ p ≡ 0 → c ≡ weight w p → eqb (c % 2) 0 ≡ element p w
+pub element_weighed : (w p : ℕ) → w / 2 ^ p ≡ 0 → eqb (ones w % 2) 0 ≡ element p w
 unfolding element
-element_weighed w p c z e = simp (lt-ltb w (2 ^ p) (low_is w p z)) (ap (λ (x : ℕ). eqb (x % 2) 0) e)
+element_weighed w p z =
+    let l = low_is w p z in
+    simp (lt-ltb w (2 ^ p) l) (ap (λ (x : ℕ). eqb (x % 2) 0) (ap ones (sym (mod-eq_of_lt l)) ∙ ones_below w p))
   where
     low_is : (w p : ℕ) → w / 2 ^ p ≡ 0 → w < 2 ^ p
     low_is w p z = omega (arith, split w p, mod-lt w (pow_pos p), ap (λ (x : ℕ). x * 2 ^ p) z)
+
+pub ruleset weighed = (element_high, element_weighed)
 
 -- ---- what the tests of the public calls show
 

@@ -4,7 +4,7 @@ use Prim.Native.Nat.{ℕ, zero, suc, ◌+◌, ◌-◌, ◌*◌, ◌/◌, ◌%◌
 use mathlib.Core.Logic.{◌≢◌}
 use mathlib.Core.Path.{◌≡◌, refl, sym, ap, ap₂, subst, ◌∙◌}
 use native.Mathlib.Decide.{dec_lt}
-use native.Mathlib.Nat.{mod-eq_of_lt, mod-lt, add-mod_right, mul-le-mul}
+use native.Mathlib.Nat.{mod-eq_of_lt, mod-lt, add-mod_right}
 use native.Mathlib.Omega.{arith}
 use lib.Arith.{digits_lt}
 use lib.Bits.{bit_xor}
@@ -95,6 +95,8 @@ module _ (w a p : ℕ) (hw : w < 2 ^ p) (ha : a ≤ p) (hp : p ≤ 61) where
       ∙ is_pack p (w % 2 ^ (p - a) * 2 ^ a + w / 2 ^ (p - a)) (λ q. lane_of p w (q + a * pred p)) turned_lt
       (λ q h. turn_bits q h ∙ lane_lower q h ∙ sym (mod-eq_of_lt (lane_of_digit p w (q + a * pred p))))
 
+pub ruleset rotated = (cut_in, turn_fits, turned)
+
 -- ---- times
 
 pub both_turns : (p a b w x y : ℕ) → x ≡ turn_of p a w → y ≡ turn_of p b w → bit_xor x y ≡ times_of p a b w
@@ -129,6 +131,8 @@ whole_is (suc n) u v = refl
 pub product_end : (p i u v s : ℕ) → s ≡ product_to p i u v → i ≤ p → p ≤ i → s ≡ product_of p u v
 product_end p i u v s e h k = let z : i ≡ p = omega arith in e ∙ ap (λ (m : ℕ). product_to p m u v) z ∙ whole_is p u v
 
+pub ruleset multiplied = (product_none, product_more, product_end)
+
 -- ---- the inverse of 1 + x^c
 
 evens_fit : T (below 61 (λ n. implies (odd_prime (suc n)) (below n (λ c. ltb (evens (suc n) (suc c) (suc n / 2)) (2 ^ suc n)))))
@@ -153,36 +157,31 @@ evens_mono p c m (suc k) h =
     ]
 
 module _ (c p : ℕ) (h0 : 0 < c) (hc : c < p) (hp : p ≤ 61) (prime : T (odd_prime p)) where
-  pub spread_room : (m : ℕ) → m < p / 2 → 2 * (m + 1) * c < 2 ^ 64
-  spread_room m h =
-      let k : 2 * (m + 1) ≤ 62 = omega arith in
-      let l : 2 * (m + 1) * c ≤ 62 * 61 = mul-le-mul {n₁ = 2 * (m + 1)} {m₁ = c} {n₂ = 62} {m₂ = 61} k (omega arith) in
-      omega arith
-
-  pub spread_place : (m : ℕ) → m < p / 2 → 2 * (m + 1) * c % p < 64
-  spread_place m h = let l : 2 * (m + 1) * c % p < p = mod-lt (2 * (m + 1) * c) (omega arith) in omega arith
-
-  term : (m : ℕ) → 1 * 2 ^ (2 * (m + 1) * c % p) % 2 ^ 64 ≡ 2 ^ (2 * (m + 1) * c % p)
+  term : (m : ℕ) → 1 * 2 ^ (2 * m * c % p) % 2 ^ 64 ≡ 2 ^ (2 * m * c % p)
   term m =
-      let l : 2 * (m + 1) * c % p < p = mod-lt (2 * (m + 1) * c) (omega arith) in
-      let k : 2 * (m + 1) * c % p < 64 = omega arith in
-      let g : 1 * 2 ^ (2 * (m + 1) * c % p) < 2 ^ 64 = omega (arith, pow-lt k) in
+      let l : 2 * m * c % p < p = mod-lt (2 * m * c) (omega arith) in
+      let k : 2 * m * c % p < 64 = omega arith in
+      let g : 1 * 2 ^ (2 * m * c % p) < 2 ^ 64 = omega (arith, pow-lt k) in
       mod-eq_of_lt g ∙ omega arith
 
-  pub spread_more : (m s : ℕ) → s ≡ evens p c m → s + 1 * 2 ^ (2 * (m + 1) * c % p) % 2 ^ 64 ≡ evens p c (m + 1)
+  pub spread_last : (m s : ℕ) → 1 ≤ m → s ≡ evens p c (m - 1) → s + 1 * 2 ^ (2 * m * c % p) % 2 ^ 64 ≡ evens p c m
   unfolding evens
-  spread_more m s e =
-      let k : m + 1 ≡ suc m = omega arith in
-      ap₂ (λ (x y : ℕ). x + y) e (term m ∙ ap (λ (x : ℕ). 2 ^ (2 * x * c % p)) k) ∙ ap (evens p c) (sym k)
+  spread_last zero s h e = absurd (omega arith)
+  spread_last (suc m) s h e =
+      let k : suc m - 1 ≡ m = omega arith in
+      ap₂ (λ (x y : ℕ). x + y) (e ∙ ap (evens p c) k) (term (suc m))
+
+  pub spread_more : (m s : ℕ) → 1 ≤ m → s ≡ evens p c (m - 1) → s + 1 * 2 ^ (2 * m * c % p) % 2 ^ 64 ≡ evens p c (m + 1 - 1)
+  spread_more m s h e = let k : m ≡ m + 1 - 1 = omega arith in spread_last m s h e ∙ ap (evens p c) k
 
   wide_all : 2 ^ p ≤ 2 ^ 61
   wide_all = pow_mono hp
 
-  pub spread_fits : (m s : ℕ) → s ≡ evens p c m → m < p / 2 → s + 1 * 2 ^ (2 * (m + 1) * c % p) % 2 ^ 64 < 2 ^ 64
-  spread_fits m s e h = omega (arith, spread_more m s e, evens_mono p c (m + 1) (p / 2) (omega arith), evens_lt p c h0 hc hp prime, wide_all)
+  pub spread_fits : (m s : ℕ) → 1 ≤ m → m ≤ p / 2 → s ≡ evens p c (m - 1) → s + 1 * 2 ^ (2 * m * c % p) % 2 ^ 64 < 2 ^ 64
+  spread_fits m s h k e = omega (arith, spread_last m s h e, evens_mono p c m (p / 2) k, evens_lt p c h0 hc hp prime, wide_all)
 
-  pub spread_end : (m s : ℕ) → s ≡ evens p c m → m ≤ p / 2 → p / 2 ≤ m → s ≡ evens p c (p / 2)
-  spread_end m s e h k = let z : m ≡ p / 2 = omega arith in e ∙ ap (evens p c) z
+  pub spread_end : (m s : ℕ) → 1 ≤ m → s ≡ evens p c (m - 1) → m ≤ p / 2 → p / 2 ≤ m → s + 1 * 2 ^ (2 * m * c % p) % 2 ^ 64 ≡ evens p c (p / 2)
+  spread_end m s h e l k = let z : m ≡ p / 2 = omega arith in spread_last m s h e ∙ ap (evens p c) z
 
 pub chosen : (b w : ℕ) → b % 2 ≡ 1 → w ≡ pick (b % 2) w
 unfolding pick
@@ -192,9 +191,13 @@ pub unchosen : (b w : ℕ) → b % 2 ≢ 1 → 0 ≡ pick (b % 2) w
 unfolding pick
 unchosen b w h = let e : b % 2 ≡ 0 = omega arith in sym (ap (λ (x : ℕ). pick x w) e)
 
+pub ruleset picks = (chosen, unchosen)
+
 pub spread_none : (p c : ℕ) → 1 ≡ evens p c 0
 unfolding evens
 spread_none p c = refl
+
+pub ruleset spreading = (spread_none, spread_fits, spread_more, spread_end)
 
 module _ (c p : ℕ) (h0 : 0 < c) (hc : c < p) (hp : p ≤ 61) (prime : T (odd_prime p)) where
   top : 1 * 2 ^ p % 2 ^ 64 ≡ 2 ^ p
@@ -224,6 +227,8 @@ module _ (c p : ℕ) (h0 : 0 < c) (hc : c < p) (hp : p ≤ 61) (prime : T (odd_p
       go zero c h k l t = absurd (omega arith)
       go (suc n) zero h k l t = absurd (omega arith)
       go (suc n) (suc d) h k l t = (word n d (omega arith) t (omega arith)).fits
+
+pub ruleset inverting = (ones_room, ones_in, inv_turned, inv_plain)
 
 -- ---- the inverse of x^a + x^b
 
@@ -270,3 +275,5 @@ gap_step a b p e = record {
   some = gap_above a b p e.apart.0 e.apart.1 e.apart.2;
   low = gap_below a b p e.apart.0 e.apart.1 e.apart.2;
 }
+
+pub ruleset inverses = (inverse_lt, gap_step, inverted)

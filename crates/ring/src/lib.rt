@@ -5,7 +5,6 @@ ghost use Rattle.std.specs.Prelude.{◌≡◌, ◌+◌, ◌*◌, ◌<◌, ◌≤
 ghost use Rattle.laws.specs.Sum.{pick};
 ghost use Rattle.algebra.specs.Divide.{evens, inv};
 ghost use Rattle.algebra.specs.Word.{turn_of, times_of, product_of, inverse_of, over_of};
-ghost use Rattle.laws.specs.Bit.{weight};
 ghost use Rattle.algebra.specs.Word.{element};
 ghost use Rattle.ring.specs.Ring.{Factor, Step, Exponents, Divisible};
 ghost use Rattle.ring.specs.Answer.{product_answer, divide_answer};
@@ -21,6 +20,7 @@ pub enum Element {
 }
 
 // x^a · w
+#[tactic(auto, using(crate::proofs::Laws::rotated))]
 fn rotate(w: u64, a: usize, p: usize) -> u64
     requires { (w < 2 ^ p) × (a ≤ p) × (p ≤ 61) }
     ensures { result ≡ turn_of p a w }
@@ -32,6 +32,7 @@ fn rotate(w: u64, a: usize, p: usize) -> u64
 }
 
 // (x^a + x^b) · w
+#[tactic(auto, using(crate::proofs::Laws::both_turns))]
 pub fn times(w: u64, a: usize, b: usize, p: usize) -> u64
     requires { (w < 2 ^ p) × (a ≤ p) × (b ≤ p) × (p ≤ 61) }
     ensures { result ≡ times_of p a b w }
@@ -40,6 +41,7 @@ pub fn times(w: u64, a: usize, b: usize, p: usize) -> u64
 }
 
 // w where the lowest bit of b is set, else 0
+#[tactic(auto, using(crate::proofs::Laws::picks))]
 fn picked(b: u64, w: u64) -> u64
     ensures { result ≡ pick (b % 2) w }
 {
@@ -47,35 +49,33 @@ fn picked(b: u64, w: u64) -> u64
 }
 
 // u · v
+#[tactic(auto, using(crate::proofs::Laws::multiplied))]
 fn multiply(u: u64, v: u64, p: usize) -> u64
     requires { Factor p v }
     ensures { result ≡ product_of p u v }
 {
     let mut sum = 0;
-    let mut i: usize = 0;
-    while i < p {
-        sum = sum ^ picked(u >> i, rotate(v, i, p));
-        i += 1;
+    for i in 0..p {
+        sum ^= picked(u >> i, rotate(v, i, p));
     }
     sum
 }
 
 // 1 + x^(2c) + x^(4c) + .. with p / 2 + 1 terms
+#[tactic(auto, using(crate::proofs::Laws::spreading))]
 fn spread(c: usize, p: usize) -> u64
     requires { Step p c }
     ensures { result ≡ evens p c (p / 2) }
 {
-    let half = p / 2;
     let mut sum = 1;
-    let mut m: usize = 0;
-    while m < half {
-        m += 1;
+    for m in 1..=p / 2 {
         sum += 1 << (2 * m * c % p);
     }
     sum
 }
 
 // 1 / (1 + x^c)
+#[tactic(auto, using(crate::proofs::Laws::inverting))]
 fn invert(c: usize, p: usize) -> u64
     requires { Step p c }
     ensures { result ≡ inv p c }
@@ -85,6 +85,7 @@ fn invert(c: usize, p: usize) -> u64
 }
 
 // 1 / (x^a + x^b)
+#[tactic(auto, using(crate::proofs::Laws::inverses))]
 pub fn inverse(a: usize, b: usize, p: usize) -> u64
     requires { Exponents p a b }
     ensures { result ≡ inverse_of p a b }
@@ -93,6 +94,7 @@ pub fn inverse(a: usize, b: usize, p: usize) -> u64
 }
 
 // w / (x^a + x^b)
+#[tactic(auto, using(crate::proofs::Laws::divided))]
 pub fn quotient(w: u64, a: usize, b: usize, p: usize) -> u64
     requires { Divisible p a b w }
     ensures { result ≡ over_of p a b w }
@@ -100,29 +102,13 @@ pub fn quotient(w: u64, a: usize, b: usize, p: usize) -> u64
     multiply(inverse(a, b, p), w, p)
 }
 
-// How many of the lowest p bits of w are set.
-fn bits_set(w: u64, p: usize) -> u64
-    requires { p ≤ 61 }
-    ensures { result ≡ weight w p }
-{
-    let mut count: u64 = 0;
-    let mut i: usize = 0;
-    while i < p {
-        count += (w >> i) % 2;
-        i += 1;
-    }
-    count
-}
-
 // Whether w has even weight and no bit at p or above.
+#[tactic(auto, using(crate::proofs::Elements::weighed))]
 fn is_element(w: u64, p: usize) -> bool
     requires { p ≤ 61 }
     ensures { result ≡ element p w }
 {
-    if w >> p != 0 {
-        return false;
-    }
-    bits_set(w, p) % 2 == 0
+    w >> p == 0 && w.count_ones() % 2 == 0
 }
 
 // The product of two elements, for any numbers.

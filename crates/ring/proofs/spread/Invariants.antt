@@ -1,12 +1,9 @@
 -- `ring::spread` meets its contract.
 -- Assumes nothing.
-use Prim.Native.Nat.{◌-◌, ◌/◌, ◌≤◌}
+use Prim.Native.Nat.{◌-◌}
 use mathlib.Core.Path.{◌≡◌}
 use Rattle.algebra.specs.Divide.{evens}
 use Rattle.ring.proofs.spread.Given as goal
 
 abbrev pub invariant-loop-m : goal.invariant-loop-m
-invariant-loop-m l = (l.half ≡ l.p / 2) × (l.m ≤ l.half) × (l.sum ≡ evens l.p l.c l.m)
-
-abbrev pub decreases-loop-m : goal.decreases-loop-m
-decreases-loop-m l = l.half - l.m
+invariant-loop-m l = l.sum ≡ evens l.p l.c (l.m - 1)
