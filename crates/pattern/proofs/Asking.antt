@@ -1,19 +1,23 @@
 -- What the tests of the calls show of their definitions.
 -- Assumes nothing.
 use Prim.Native.Nat.{◌%◌, ◌*◌, ◌+◌, ◌-◌, ◌/◌, ◌<◌, ◌^◌, ◌≤◌, ℕ}
-use mathlib.Core.Bool.{Bool, ◌&&◌, false, true}
+use mathlib.Core.Bool.{Bool, ◌&&◌, cond, false, true}
 use mathlib.Core.List.{List}
 use mathlib.Core.Path.{◌∙◌, ◌≡◌, ap, refl, sym}
 use native.Mathlib.Decide.{dec_lt}
 use native.Mathlib.Nat.{div-eq_of_lt, mod-lt}
 use native.Mathlib.Omega.{arith}
-use lib.Dec.{eqb, leb, ltb, ltb→lt}
+use lib.Bits.{and_mask, bit_and}
+use lib.Count.{ones, ones-le}
+use lib.Dec.{T, eqb, leb, ltb, ltb→lt}
 use lib.ListN.{length, take}
 use lib.Pow.{pow_pos, split}
 use lib.Seq.{length-take-le}
-use borrow.Author.Tests.{eq-eqb, le-leb, le-ltb, leb-true, lt-leb, lt-ltb, ltb-true, ne_eqb}
-use Rattle.laws.proofs.Choose.{T_true, and_left, and_right, choose_yes, true_T}
+use borrow.Author.Tests.{eq-eqb, eqb-true, le-leb, le-ltb, leb-true, lt-leb, lt-ltb, ltb-true, ne_eqb}
+use Rattle.laws.proofs.Choose.{T_true, below_at, and_left, and_right, choose_yes, true_T}
 use Rattle.laws.specs.Bit.{bit, weight}
+use Rattle.laws.specs.Choose.{below}
+use Rattle.ring.proofs.Elements.{ones_below}
 use Rattle.stripe.proofs.Frame.{read_image}
 use Rattle.stripe.specs.Layout.{rows}
 use Rattle.stripe.specs.Params.{Admitted}
@@ -43,9 +47,17 @@ fits_tested q m = go (dec_lt m (2 ^ (q.k + q.r)))
     go (yes h) = eq-eqb (m / 2 ^ (q.k + q.r)) 0 (div-eq_of_lt h) ∙ sym (lt-ltb m (2 ^ (q.k + q.r)) h)
     go (no h) = ne_eqb (m / 2 ^ (q.k + q.r)) 0 (λ z. h (high z)) ∙ sym (le-ltb m (2 ^ (q.k + q.r)) (omega arith))
 
-pub few_tested : (q : Params) (m c : ℕ) → c ≡ weight m (q.k + q.r) → leb c q.r ≡ few_lost q m
-unfolding few_lost
-few_tested q m c e = ap (λ (x : ℕ). leb x q.r) e
+-- the lowest n of 64 bits
+masks : T (below 65 (λ n. eqb (2 ^ 64 - 1 - cond (ltb n 64) ((2 ^ 64 - 1) * 2 ^ n % 2 ^ 64) 0) (2 ^ n - 1)))
+unfolding below
+masks = tt
+
+pub counted : (m n r : ℕ) → n ≤ 64 → r ≡ cond (ltb n 64) ((2 ^ 64 - 1) * 2 ^ n % 2 ^ 64) 0
+    → (ones (bit_and m (2 ^ 64 - 1 - r)) ≡ weight m n) × (ones (bit_and m (2 ^ 64 - 1 - r)) ≤ n)
+counted m n r h e =
+    let z = eqb-true _ _ (T_true _ (below_at (λ n. eqb (2 ^ 64 - 1 - cond (ltb n 64) ((2 ^ 64 - 1) * 2 ^ n % 2 ^ 64) 0) (2 ^ n - 1)) 65 masks n (omega arith))) in
+    let o = ap (λ (x : ℕ). ones (bit_and m x)) (ap (λ (x : ℕ). 2 ^ 64 - 1 - x) e ∙ z) ∙ ap ones (and_mask m n) in
+    (o ∙ ones_below m n, omega (arith, o, ones-le n (m % 2 ^ n) (mod-lt m (pow_pos n))))
 
 -- ---- the ways out of `ask`
 
@@ -55,6 +67,8 @@ module _ (q : Params) (m n c : ℕ) (x : Bool) (g : x ≡ pattern_fits q m) wher
 
   pub within_is : x ≡ true → ltb n c ≡ (pattern_fits q m && ltb n c)
   within_is h = simp (sym g ∙ h)
+
+pub ruleset within_tested = (within_not, within_is)
 
 module _ (q : Params) (m n t room : ℕ) (x : Bool) (g : x ≡ (pattern_fits q m && ltb n (q.k + q.r))) where
   abbrev pub due : Reading

@@ -1,13 +1,13 @@
 -- Patterns of one column or none.
 -- Assumes nothing.
-use Prim.Native.Nat.{ℕ, zero, suc, ◌+◌, ◌-◌, ◌^◌, ◌<◌, ◌≤◌}
+use Prim.Native.Nat.{ℕ, zero, suc, ◌+◌, ◌-◌, ◌%◌, ◌^◌, ◌<◌, ◌≤◌}
 use mathlib.Core.Bool.{Bool, true, false}
 use mathlib.Core.Path.{◌≡◌, sym, ap, subst, ◌∙◌}
 use native.Mathlib.Decide.{ℕ_discrete}
 use native.Mathlib.Omega.{arith}
 use lib.Bits.{bit_and}
 use lib.Count.{count_trailing_zeros}
-use lib.Dec.{eqb}
+use lib.Dec.{eqb, leb}
 use lib.Pow.{pow_pos}
 use borrow.Author.Tests.{le-leb, lt-ltb, eqb-true}
 use Rattle.laws.proofs.Bit.{bit_zero}
@@ -54,16 +54,21 @@ weight_power t (suc n) = go (ℕ_discrete n t) (weight_power t n)
     go (yes e) l = omega (arith, weight_below t n (omega arith), ap (bit (2 ^ t)) e ∙ power_bit t)
     go (no h) l = omega (arith, power_rest t n h)
 
-pub none_single : (m : ℕ) → m ≡ 0 → Single m
-none_single m e = subst Single (sym e) (λ n. omega (arith, weight_zero n))
-
-pub one_single : (m : ℕ) (x : Bool) → (m ≡ 0 → ⊥) → m < 2 ^ 64 → x ≡ eqb (bit_and m (m - 1)) 0 → x ≡ true → Single m
-one_single m x h l y z =
-    let e : bit_and m (m - 1) ≡ 0 = eqb-true (bit_and m (m - 1)) 0 (sym y ∙ z) in
-    let t : ℕ = count_trailing_zeros 64 m in
-    let f : m ⊕ 2 ^ t ≡ 0 = sym (later_and m (omega arith) l) ∙ e in
-    subst Single (sym (cancel m (2 ^ t)) ∙ ap (λ (x : ℕ). m ⊕ x) f ∙ ⊕_zero m) (weight_power t)
+pub one_single : (m : ℕ) → m < 2 ^ 64 → eqb (bit_and m ((m + (2 ^ 64 - 1)) % 2 ^ 64)) 0 ≡ true → Single m
+one_single zero l z = λ n. omega (arith, weight_zero n)
+one_single (suc m) l z =
+    let d : (suc m + (2 ^ 64 - 1)) % 2 ^ 64 ≡ suc m - 1 = omega arith in
+    let e : bit_and (suc m) (suc m - 1) ≡ 0 = ap (bit_and (suc m)) (sym d) ∙ eqb-true _ _ z in
+    let t : ℕ = count_trailing_zeros 64 (suc m) in
+    let f : suc m ⊕ 2 ^ t ≡ 0 = sym (later_and (suc m) (omega arith) l) ∙ e in
+    subst Single (sym (cancel (suc m) (2 ^ t)) ∙ ap (λ (x : ℕ). suc m ⊕ x) f ∙ ⊕_zero (suc m)) (weight_power t)
 
 pub single_few : (q : Params) (m : ℕ) (x : Bool) → Admitted q → (x ≡ true → Single m) → x ≡ true → true ≡ few_lost q m
 unfolding few_lost
 single_few q m x a h e = sym (le-leb (weight m (q.k + q.r)) q.r (omega (arith, h e (q.k + q.r), a.r_low)))
+
+pub few_tested : (q : Params) (m c : ℕ) → c ≡ weight m (q.k + q.r) → leb c q.r ≡ few_lost q m
+unfolding few_lost
+few_tested q m c e = ap (λ (x : ℕ). leb x q.r) e
+
+pub ruleset few = (few_tested, single_few)

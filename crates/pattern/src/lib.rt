@@ -13,6 +13,7 @@ use refusal::Refusal;
 use stripe::{Params, Reading};
 
 // Whether the pattern names column n.
+#[tactic(auto, using(crate::proofs::Asking::lost_tested))]
 pub fn is_lost(lost: u64, n: usize) -> bool
     requires { n < 64 }
     ensures { result ≡ is_lost lost n }
@@ -21,20 +22,16 @@ pub fn is_lost(lost: u64, n: usize) -> bool
 }
 
 // How many of the columns below n the pattern names.
+#[tactic(auto, using(crate::proofs::Asking::counted))]
 pub fn lost_below(lost: u64, n: usize) -> usize
     requires { n ≤ 64 }
     ensures { (result ≡ weight lost n) × (result ≤ n) }
 {
-    let mut sum: usize = 0;
-    let mut i: usize = 0;
-    while i < n {
-        sum += ((lost >> i) % 2) as usize;
-        i += 1;
-    }
-    sum
+    (lost & !u64::MAX.unbounded_shl(n as u32)).count_ones() as usize
 }
 
 // Whether the pattern names columns of the stripe alone.
+#[tactic(auto, using(crate::proofs::Asking::fits_tested))]
 pub fn fits(q: Params, lost: u64) -> bool
     requires { Admitted q }
     ensures { result ≡ pattern_fits q lost }
@@ -43,35 +40,29 @@ pub fn fits(q: Params, lost: u64) -> bool
 }
 
 // Whether the column too is one of the stripe.
+#[tactic(auto, using(crate::proofs::Asking::within_tested))]
 fn is_within(q: Params, lost: u64, column: usize) -> bool
     requires { Admitted q }
     ensures { result ≡ (pattern_fits q lost && ltb column (q.k + q.r)) }
 {
-    if !fits(q, lost) {
-        return false;
-    }
-    column < q.k + q.r
+    fits(q, lost) && column < q.k + q.r
 }
 
 // Whether the pattern names one column or none.
+#[tactic(auto, using(crate::proofs::Single::one_single))]
 fn is_single(lost: u64) -> bool
     ensures { result ≡ true → Single lost }
 {
-    if lost == 0 {
-        return true;
-    }
-    lost & (lost - 1) == 0
+    lost & lost.wrapping_sub(1) == 0
 }
 
 // Whether no more columns are lost than there are parity columns, of which there is one at least.
+#[tactic(auto, using(crate::proofs::Single::few))]
 pub fn is_few(q: Params, lost: u64) -> bool
     requires { Admitted q }
     ensures { result ≡ few_lost q lost }
 {
-    if is_single(lost) {
-        return true;
-    }
-    lost_below(lost, q.k + q.r) <= q.r
+    is_single(lost) || lost_below(lost, q.k + q.r) <= q.r
 }
 
 // The parameters where strip (column, row) may be asked for with a scratch of `room` bytes, or the refusal that is due.
@@ -112,48 +103,42 @@ pub fn no_exponents() -> [usize; Params::MOST_COLUMNS]
     [0usize; Params::MOST_COLUMNS]
 }
 
-// 1 where bit i of the pattern is `want`, else 0.
-fn wanted(pattern: u64, i: usize, want: u64) -> usize
-    requires { i < 64 }
-    ensures { (result ≡ choose (eqb (bit pattern i) want) 1 0) × (result ≤ 1) }
+// The numbers base + i, in rising order, of the bits i that are set: the first of them, as many as there are places.
+#[tactic(auto, using(crate::proofs::Collecting::collecting))]
+fn collect(bits: u64, base: usize, out: &mut [usize])
+    requires { (base ≤ 60) × (length out.old ≤ length (named bits 1 base 64)) }
+    ensures { out.new ≡ take (length out.old) (named bits 1 base 64) }
 {
-    if (pattern >> i) % 2 == want { 1 } else { 0 }
-}
-
-// The numbers base + i, in rising order, of the i below n whose bit in the pattern is `want`: the first of them, as many as there are places.
-fn collect(pattern: u64, n: usize, base: usize, want: u64, out: &mut [usize])
-    requires { (n ≤ 60) × (base ≤ 60) × (length out.old ≤ length (named pattern want base n)) }
-    ensures { out.new ≡ take (length out.old) (named pattern want base n) }
-{
-    let mut c: usize = 0;
-    let mut i: usize = 0;
-    while c < out.len() {
-        out[c] = base + i;
-        c += wanted(pattern, i, want);
-        i += 1;
+    let mut rest = bits;
+    for place in out.iter_mut() {
+        *place = base + rest.trailing_zeros() as usize;
+        rest &= rest - 1;
     }
 }
 
 // The exponents of the lost data columns.
+#[tactic(auto, using(crate::proofs::Collecting::losing))]
 pub fn lost_data(q: Params, lost: u64, out: &mut [usize])
     requires { Admitted q × (length out.old ≡ length (lost_exponents q lost)) }
     ensures { out.new ≡ lost_exponents q lost }
 {
-    collect(lost, q.k, q.r, 1, out);
+    collect(lost, q.r, out);
 }
 
 // The exponents of the present data columns.
+#[tactic(auto, using(crate::proofs::Collecting::keeping))]
 pub fn present_data(q: Params, lost: u64, out: &mut [usize])
     requires { Admitted q × (length out.old ≡ length (present_exponents q lost)) }
     ensures { out.new ≡ present_exponents q lost }
 {
-    collect(lost, q.k, q.r, 0, out);
+    collect(!lost, q.r, out);
 }
 
 // The consulted parity columns: the lowest-numbered present ones, as many as data columns are lost.
+#[tactic(auto, using(crate::proofs::Collecting::consulting))]
 pub fn consulted(q: Params, lost: u64, out: &mut [usize])
     requires { Admitted q × (length out.old ≡ length (consulted q lost)) }
     ensures { out.new ≡ consulted q lost }
 {
-    collect(lost >> q.k, q.r, 0, 0, out);
+    collect(!(lost >> q.k), 0, out);
 }
