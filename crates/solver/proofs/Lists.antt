@@ -67,13 +67,13 @@ words_zip p f [] l h = tt
 words_zip p f (x ∷ xs) [] h = tt
 words_zip p f (x ∷ xs) (w ∷ l) h = (h x w, words_zip p f xs l h)
 
-pub zip_more : (f : ℕ → ℕ → ℕ) (xs s t : List ℕ) (m r : ℕ) → Patched s t 0 m (zip_at f xs s) → m < length t → r ≡ f (get_or xs m 0) (get_or t m 0)
+pub zip_more : (f : ℕ → ℕ → ℕ) (xs s t : List ℕ) (m r : ℕ) → Patched s t 0 m (zip_at f xs s) → m < length s → r ≡ f (get_or xs m 0) (get_or t m 0)
     → Patched s (set t m r) 0 (m + 1) (zip_at f xs s)
 unfolding zip_at
 zip_more f xs s t m r d h e =
     patch_front s t m (zip_at f xs s) r d (omega (arith, d.len)) (e ∙ ap (f (get_or xs m 0)) (d.above m (omega arith)))
 
-pub zip_end : (f : ℕ → ℕ → ℕ) (xs s t : List ℕ) (m : ℕ) → Patched s t 0 m (zip_at f xs s) → length xs ≡ length s → m ≤ length t → length t ≤ m → t ≡ zip f xs s
+pub zip_end : (f : ℕ → ℕ → ℕ) (xs s t : List ℕ) (m : ℕ) → Patched s t 0 m (zip_at f xs s) → length xs ≡ length s → m ≤ length s → length s ≤ m → t ≡ zip f xs s
 zip_end f xs s t m d l h k =
     patch_all s t (zip f xs s) (zip_at f xs s) (patch_end s t 0 m (length s) (zip_at f xs s) d (omega (arith, d.len)) (omega (arith, d.len)))
     (length_zip f xs s l) (get_or_zip f xs s l)

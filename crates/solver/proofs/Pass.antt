@@ -9,6 +9,7 @@ use lib.Bits.{bit_xor, xor_lt}
 use lib.ListN.{length, get_or, set, take, drop, drop_of_length-le, length-drop, length-append, get_or-append}
 use lib.Seq.{drop-cons, take-suc, take_all, take_at, drop_at, append_snoc, length-take-le, get_or-take, take-take, set_at}
 use borrow.Rule.Slice.PartMut.{put_mid}
+use Rattle.laws.proofs.Patch.{patch_none}
 use Rattle.laws.proofs.Xor.{⊕_assoc, ⊕_zero, zero_⊕}
 use Rattle.laws.specs.Patch.{Patched}
 use Rattle.laws.specs.Xor.{◌⊕◌}
@@ -40,6 +41,8 @@ sum_divisible p a b c d w c' d' w' z u v h e f = record {
   word = xor_lt p u v (times_small p c d w u e) (times_small p c' d' w' v f);
 }
 
+pub ruleset clearing = (sum_divisible, cleared_is)
+
 -- ---- lessen, settle
 
 pub less_zip : (p x y P : ℕ) (xs l : List ℕ) → zip (cleared_of p x y P) xs l ≡ less_of p x y P xs l
@@ -54,11 +57,11 @@ back_zip p x y [] l = refl
 back_zip p x y (w ∷ ys) [] = refl
 back_zip p x y (w ∷ ys) (v ∷ l) = ap (λ (k : List ℕ). settled_of p x y w v ∷ k) (back_zip p x y ys l)
 
-pub less_end : (p x y P : ℕ) (xs s t : List ℕ) (m : ℕ) → Row p x xs s → Patched s t 0 m (zip_at (cleared_of p x y P) xs s) → m ≤ length t → length t ≤ m
+pub less_end : (p x y P : ℕ) (xs s t : List ℕ) (m : ℕ) → Row p x xs s → Patched s t 0 m (zip_at (cleared_of p x y P) xs s) → m ≤ length s → length s ≤ m
     → t ≡ less_of p x y P xs s
 less_end p x y P xs s t m r d h k = zip_end (cleared_of p x y P) xs s t m d r.same h k ∙ less_zip p x y P xs s
 
-pub back_end : (p x y : ℕ) (ys s t : List ℕ) (m : ℕ) → Row p y ys s → Patched s t 0 m (zip_at (settled_of p x y) ys s) → m ≤ length t → length t ≤ m
+pub back_end : (p x y : ℕ) (ys s t : List ℕ) (m : ℕ) → Row p y ys s → Patched s t 0 m (zip_at (settled_of p x y) ys s) → m ≤ length s → length s ≤ m
     → t ≡ back_of p x y ys s
 back_end p x y ys s t m r d h k = zip_end (settled_of p x y) ys s t m d r.same h k ∙ back_zip p x y ys s
 
@@ -70,12 +73,14 @@ off_at p x (y ∷ ys) (suc k) h l = off_at p x ys k h.1 (omega arith)
 patched_word : (p : ℕ) (s t : List ℕ) (m : ℕ) (f : ℕ → ℕ) → Words p s → Patched s t 0 m f → get_or t m 0 < 2 ^ p
 patched_word p s t m f h d = subst (λ (x : ℕ). x < 2 ^ p) (sym (d.above m (omega arith))) (words_at p s h m)
 
-pub patched_divisible : (p x m : ℕ) (xs s t : List ℕ) (f : ℕ → ℕ) → Modulus p → Row p x xs s → Patched s t 0 m f → m < length t
+pub patched_divisible : (p x m : ℕ) (xs s t : List ℕ) (f : ℕ → ℕ) → Modulus p → Row p x xs s → Patched s t 0 m f → m < length s
     → Divisible p x (get_or xs m 0) (get_or t m 0)
 patched_divisible p x m xs s t f M r d h = record {
   exponents = record { modulus = M; apart = off_at p x xs m r.off (omega (arith, r.same, d.len)) };
   word = patched_word p s t m f r.words d;
 }
+
+pub ruleset lessening = (patch_none, patched_divisible, zip_more, less_end)
 
 -- ---- row_sum
 
@@ -108,6 +113,8 @@ row_divisible p x ys s m M r h = record {
   word = words_at p s r.words m;
 }
 
+pub ruleset summing = (sum_start, row_divisible, row_more, row_end)
+
 -- ---- settle: the quotient by y of each word of s, multiplied by x, in its place in t, and all quotients added up
 
 times_settled : (p x y z w : ℕ) → Modulus p → times_of p x z (over_of p y z w) ≡ settled_of p x y z w
@@ -127,10 +134,10 @@ back_row p x y [] s M o e = refl
 back_row p x y (z ∷ ys) [] M o e = refl
 back_row p x y (z ∷ ys) (w ∷ s) M o e = ap₂ ◌⊕◌ (settled_over p x y z w M o.0 e.0) (back_row p x y ys s M o.1 e.1)
 
-pub part_in : (p y : ℕ) (ys s t : List ℕ) (m : ℕ) (f : ℕ → ℕ) → Row p y ys s → Patched s t 0 m f → m < length t → get_or ys m 0 ≤ p
+pub part_in : (p y : ℕ) (ys s t : List ℕ) (m : ℕ) (f : ℕ → ℕ) → Row p y ys s → Patched s t 0 m f → m < length s → get_or ys m 0 ≤ p
 part_in p y ys s t m f R d h = let a = off_at p y ys m R.off (omega (arith, R.same, d.len)) in omega (arith, a.1)
 
-module _ (p x y : ℕ) (ys s t : List ℕ) (m : ℕ) (M : Modulus p) (R : Row p y ys s) (d : Patched s t 0 m (zip_at (settled_of p x y) ys s)) (h : m < length t)
+module _ (p x y : ℕ) (ys s t : List ℕ) (m : ℕ) (M : Modulus p) (R : Row p y ys s) (d : Patched s t 0 m (zip_at (settled_of p x y) ys s)) (h : m < length s)
     (r : ℕ) (e : r ≡ over_of p y (get_or ys m 0) (get_or t m 0)) where
   pub part_low : r < 2 ^ p
   part_low = subst (λ (z : ℕ). z < 2 ^ p) (sym e) (over_lt p y (get_or ys m 0) (get_or t m 0))
@@ -141,10 +148,12 @@ module _ (p x y : ℕ) (ys s t : List ℕ) (m : ℕ) (M : Modulus p) (R : Row p 
   pub settle_sum : (a : ℕ) → a ⊕ row_of p y (drop m ys) (drop m s) ≡ row_of p y ys s → bit_xor a r ⊕ row_of p y (drop (m + 1) ys) (drop (m + 1) s) ≡ row_of p y ys s
   settle_sum a f = row_more p y ys s m a r R (omega (arith, d.len)) f (e ∙ ap (over_of p y (get_or ys m 0)) (d.above m (omega arith)))
 
-pub settle_end : (p x y : ℕ) (ys s t : List ℕ) (m a : ℕ) (f : ℕ → ℕ) → Modulus p → Row p y ys s → Off (Apart p) x ys → Patched s t 0 m f → m ≤ length t → length t ≤ m
+pub settle_end : (p x y : ℕ) (ys s t : List ℕ) (m a : ℕ) (f : ℕ → ℕ) → Modulus p → Row p y ys s → Off (Apart p) x ys → Patched s t 0 m f → m ≤ length s → length s ≤ m
     → a ⊕ row_of p y (drop m ys) (drop m s) ≡ row_of p y ys s → a ≡ row_of p x ys (back_of p x y ys s)
 settle_end p x y ys s t m a f M R o d h k e =
     row_end p y ys s m a R (omega (arith, d.len)) (omega (arith, d.len)) e ∙ sym (back_row p x y ys s M o R.off)
+
+pub ruleset settling = (patch_none, sum_start, patched_divisible, part_in, part_low, settle_more, settle_sum, back_end, settle_end)
 
 -- ---- the first pass
 
@@ -247,10 +256,11 @@ module _ (p : ℕ) (xs ys s : List ℕ) (S : System p xs ys s) where
             ∙ d.left;
       }
 
-  pub descend_more : (t u : List ℕ) (i : ℕ) → Descended p xs ys s t i → i < length t
+  pub descend_more : (t u : List ℕ) (i : ℕ) → Descended p xs ys s t i → i < length s
       → u ≡ less_of p (get_or xs i 0) (get_or ys i 0) (get_or t i 0) (take (length xs - (i + 1)) (drop (i + 1) xs)) (take (length t - (i + 1)) (drop (i + 1) t))
       → Descended p xs ys s (put_mid (i + 1) (length t - (i + 1)) t u) (i + 1)
-  descend_more t u i d h e =
+  descend_more t u i d b e =
+      let h : i < length t = omega (arith, d.len) in
       let z : suc i ≡ i + 1 = omega arith in
       let f : u ≡ less_of p (get_or xs i 0) (get_or ys i 0) (get_or t i 0) (drop (i + 1) xs) (drop (i + 1) t) =
       e ∙ ap₂ (less_of p (get_or xs i 0) (get_or ys i 0) (get_or t i 0)) (tail_part xs (i + 1)) (tail_part t (i + 1)) in
@@ -262,6 +272,8 @@ module _ (p : ℕ) (xs ys s : List ℕ) (S : System p xs ys s) where
   descend_end t i d h =
       sym (append-nil t) ∙ ap (λ (a : List ℕ). a ++ []) (sym (take_all i t h))
       ∙ ap (λ (a : List ℕ). take i t ++ down_of p a (drop i ys) (drop i t)) (sym (drop_of_length-le xs {i = i} (omega (arith, S.same_x, d.len)))) ∙ d.left
+
+pub ruleset descending = (descend_none, descend_row, descend_y, descend_word, descend_more, descend_end)
 
 -- ---- one unknown of the second pass
 
@@ -328,6 +340,8 @@ module _ (p : ℕ) (xs ys t : List ℕ) (S : System p xs ys t) (i : ℕ) (h : i 
           ap (λ (l : List ℕ). set l i r) (put_is ∙ ap (λ (l : List ℕ). l ++ U) (ap (λ (a : ℕ). take a t) z ∙ take-suc t i 0 h) ∙ append_snoc (take i t) (get_or t i 0) U)
           ∙ set_at (take i t) (get_or t i 0) U r i (length-take-le i t (omega arith))
           ∙ ap (λ (a : ℕ). take i t ++ (a ∷ U)) v
+
+pub ruleset rising = (rise_x, rise_y, rise_row, rise_off, rise_sum, rise_end)
 
 -- ---- the second pass
 
@@ -402,6 +416,8 @@ module _ (p : ℕ) (xs ys s : List ℕ) (S : System p xs ys s) where
   pub ascend_end : (t : List ℕ) (j : ℕ) → Ascended p xs ys s t j → j ≤ 0 → t ≡ up_of p xs ys s
   ascend_end t j d h = let z : j ≡ 0 = omega arith in subst (λ (m : ℕ). drop m t ≡ up_of p (drop m xs) (drop m ys) (drop m s)) z d.done
 
+pub ruleset ascending = (ascend_none, ascend_system, ascend_in, ascend_more, ascend_end)
+
 -- ---- both
 
 down_words : (p : ℕ) (xs ys s : List ℕ) → Words p s → Words p (down_of p xs ys s)
@@ -437,3 +453,5 @@ system_down p xs ys s t S e =
 pub solved : (p : ℕ) (xs ys s t u : List ℕ) → t ≡ down_of p xs ys s → u ≡ up_of p xs ys t → u ≡ solve_of p xs ys s
 unfolding down_of up_of solve_of
 solved p xs ys s t u e f = f ∙ ap (up_of p xs ys) e ∙ sym (two_passes ◌⊕◌ 0 (times_of p) (over_of p) xs ys s)
+
+pub ruleset solving = (system_down, solved)

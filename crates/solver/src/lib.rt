@@ -10,6 +10,7 @@ ghost use Rattle.ring.specs.Ring.{Divisible};
 ghost use Rattle.solver.specs.System.{Row, System, rise_of};
 
 // ((x + y1)·w + (x1 + y1)·w1) / (x1 + x)
+#[tactic(auto, using(crate::proofs::Pass::clearing))]
 fn cleared(x1: usize, y1: usize, w1: u64, x: usize, w: u64, p: usize) -> u64
     requires { Divisible p x1 x w × (y1 ≤ p) × (w1 < 2 ^ p) }
     ensures { result ≡ cleared_of p x1 y1 w1 x w }
@@ -23,87 +24,81 @@ fn cleared(x1: usize, y1: usize, w1: u64, x: usize, w: u64, p: usize) -> u64
 }
 
 // each word of v freed of the first unknown
+#[tactic(auto, using(crate::proofs::Pass::lessening))]
 fn lessen(x1: usize, y1: usize, w1: u64, xs: &[usize], v: &mut [u64], p: usize)
     requires { Modulus p × Row p x1 xs.now v.old × (y1 ≤ p) × (w1 < 2 ^ p) }
     ensures { v.new ≡ less_of p x1 y1 w1 xs.now v.old }
 {
-    let mut m: usize = 0;
-    while m < v.len() {
-        v[m] = cleared(x1, y1, w1, xs[m], v[m], p);
-        m += 1;
+    for (m, w) in v.iter_mut().enumerate() {
+        *w = cleared(x1, y1, w1, xs[m], *w, p);
     }
 }
 
 // each unknown after the first, (x1 + y)·w / (y1 + y), from that of the system without the first; the sum of these unknowns, each divided by x1 + y:
 // of w / (y1 + y)
+#[tactic(auto, using(crate::proofs::Pass::settling))]
 fn settle(x1: usize, y1: usize, ys: &[usize], v: &mut [u64], p: usize) -> u64
     requires { Modulus p × Row p y1 ys.now v.old × Off (Apart p) x1 ys.now × (x1 ≤ p) }
     ensures unknowns { v.new ≡ back_of p x1 y1 ys.now v.old }
     ensures sum { result ≡ row_of p x1 ys.now (back_of p x1 y1 ys.now v.old) }
 {
     let mut sum = 0;
-    let mut m: usize = 0;
-    while m < v.len() {
-        let part = ring::quotient(v[m], y1, ys[m], p);
-        v[m] = ring::times(part, x1, ys[m], p);
-        sum = sum ^ part;
-        m += 1;
+    for (m, w) in v.iter_mut().enumerate() {
+        let part = ring::quotient(*w, y1, ys[m], p);
+        *w = ring::times(part, x1, ys[m], p);
+        sum ^= part;
     }
     sum
 }
 
 // the sum of v / (x + y)
+#[tactic(auto, using(crate::proofs::Pass::summing))]
 pub fn row_sum(x: usize, ys: &[usize], v: &[u64], p: usize) -> u64
     requires { Modulus p × Row p x ys.now v.now }
     ensures { result ≡ row_of p x ys.now v.now }
 {
     let mut sum = 0;
-    let mut m: usize = 0;
-    while m < v.len() {
-        sum = sum ^ ring::quotient(v[m], x, ys[m], p);
-        m += 1;
+    for (y, w) in ys.iter().zip(v) {
+        sum ^= ring::quotient(*w, x, *y, p);
     }
     sum
 }
 
 // the first pass: each word frees those after it of its unknown
+#[tactic(auto, using(crate::proofs::Pass::descending))]
 fn descend(xs: &[usize], ys: &[usize], v: &mut [u64], p: usize)
     requires { Modulus p × System p xs.now ys.now v.old }
     ensures { v.new ≡ down_of p xs.now ys.now v.old }
 {
-    let mut i: usize = 0;
-    while i < v.len() {
-        let next = i + 1;
-        lessen(xs[i], ys[i], v[i], &xs[next..], &mut v[next..], p);
-        i = next;
+    for i in 0..v.len() {
+        lessen(xs[i], ys[i], v[i], &xs[i + 1..], &mut v[i + 1..], p);
     }
 }
 
 // unknown i, when those after it are solved for the system without it
+#[tactic(auto, using(crate::proofs::Pass::rising))]
 fn rise(xs: &[usize], ys: &[usize], v: &mut [u64], i: usize, p: usize)
     requires { Modulus p × System p xs.now ys.now v.old × (i < length v.old) }
     ensures { v.new ≡ rise_of p xs.now ys.now v.old i }
 {
-    let next = i + 1;
-    let x = xs[i];
-    let y = ys[i];
-    let sum = settle(x, y, &ys[next..], &mut v[next..], p);
+    let (x, y) = (xs[i], ys[i]);
+    let sum = settle(x, y, &ys[i + 1..], &mut v[i + 1..], p);
     v[i] = ring::times(v[i] ^ sum, x, y, p);
 }
 
 // the second pass: from the last unknown to the first
+#[tactic(auto, using(crate::proofs::Pass::ascending))]
 fn ascend(xs: &[usize], ys: &[usize], v: &mut [u64], p: usize)
     requires { Modulus p × System p xs.now ys.now v.old }
     ensures { v.new ≡ up_of p xs.now ys.now v.old }
 {
-    let mut i = v.len();
-    while i > 0 {
-        i -= 1;
+    for i in (0..v.len()).rev() {
         rise(xs, ys, v, i, p);
     }
 }
 
 // solves the system of the exponents xs, ys for the words of v
+#[tactic(auto, using(crate::proofs::Pass::solving))]
 pub fn solve(xs: &[usize], ys: &[usize], v: &mut [u64], p: usize)
     requires { Modulus p × System p xs.now ys.now v.old }
     ensures { v.new ≡ solve_of p xs.now ys.now v.old }

@@ -5,6 +5,3 @@ use Rattle.solver.proofs.ascend.Given as goal
 
 abbrev pub invariant-loop-i : goal.invariant-loop-i
 invariant-loop-i l = Ascended l.p l.xs l.ys l.initial.v l.v l.i
-
-abbrev pub decreases-loop-i : goal.decreases-loop-i
-decreases-loop-i l = l.i

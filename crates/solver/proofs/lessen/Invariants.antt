@@ -1,14 +1,9 @@
 -- `solver::lessen` meets its contract.
 -- Assumes nothing.
-use Prim.Native.Nat.{◌-◌, ◌≤◌}
-use lib.ListN.{length}
 use Rattle.laws.specs.Patch.{Patched}
 use Rattle.algebra.specs.Recovery.{cleared_of}
 use Rattle.solver.proofs.Lists.{zip_at}
 use Rattle.solver.proofs.lessen.Given as goal
 
 abbrev pub invariant-loop-m : goal.invariant-loop-m
-invariant-loop-m l = (l.m ≤ length l.v) × Patched l.initial.v l.v 0 l.m (zip_at (cleared_of l.p l.x1 l.y1 l.w1) l.xs l.initial.v)
-
-abbrev pub decreases-loop-m : goal.decreases-loop-m
-decreases-loop-m l = length l.v - l.m
+invariant-loop-m l = Patched l.initial.v l.v 0 l.m (zip_at (cleared_of l.p l.x1 l.y1 l.w1) l.xs l.initial.v)
