@@ -1,16 +1,14 @@
 -- A row in the first places, and after it what it takes of the present data.
 -- Assumes nothing.
-use Prim.Native.Nat.{ℕ, zero, suc, ◌+◌, ◌-◌, ◌^◌, ◌<◌, ◌≤◌}
-use mathlib.Core.List.{List, [], ◌∷◌, ◌++◌, append-nil, map}
-use mathlib.Core.Path.{◌≡◌, refl, sym, ap, ap₂, ◌∙◌, subst}
+use Prim.Native.Nat.{ℕ, zero, suc, ◌+◌, ◌-◌, ◌^◌, ◌<◌}
+use mathlib.Core.List.{List, [], ◌∷◌, ◌++◌, map}
+use mathlib.Core.Path.{◌≡◌, refl, sym, ap, ap₂, ◌∙◌}
 use native.Mathlib.Omega.{arith}
-use lib.ListN.{length, get_or, set, take, drop, drop_of_length-le, length-drop, length-map}
-use lib.Seq.{drop_at, ext_get_or, get_or-drop, get_or-take, length-take-le, take_at}
-use borrow.Rule.Slice.PartMut.{put_mid, same_len_mid}
-use Rattle.laws.proofs.Patch.{is_patch, patch_end, patch_more}
-use Rattle.laws.proofs.Tab.{is_tab, length_tab, length_table, map_at}
-use Rattle.laws.specs.Part.{put, tab, table}
-use Rattle.laws.specs.Patch.{Patched, patch}
+use lib.ListN.{length, get_or, take, drop, length-append, length-drop, length-map}
+use lib.Seq.{drop_at, ext_get_or, length-take-le, take_at}
+use borrow.Rule.Slice.PartMut.{put_mid}
+use Rattle.laws.proofs.Tab.{length_table, map_at}
+use Rattle.laws.specs.Part.{tab, table}
 use Rattle.laws.specs.Xor.{◌⊕◌}
 use Rattle.algebra.proofs.Bounds.{entry_lt, row_lt}
 use Rattle.algebra.proofs.Composed.{composed_length}
@@ -24,52 +22,27 @@ use Rattle.solver.specs.System.{Row, Words}
 use Rattle.recovery.specs.Inner.{Direct, Extended, Solvable, Sourced}
 use Rattle.recovery.specs.Words.{data_words, matrix_row, parity_row, parity_words, row_words}
 
--- ---- the loop: t is s with i words after the first g
+-- ---- the loop, over the parts of both slices
 
--- the word of place g + i
-unfoldable pub word_at : ℕ → List ℕ → ℕ → List ℕ → ℕ → ℕ
-word_at p from g s i = row_of p (get_or from (g + i) 0) (take g from) (take g s)
-
-module _ (p : ℕ) (from : List ℕ) (g : ℕ) (s : List ℕ) (E : Extended p from g s) (t : List ℕ) (i : ℕ) (d : Patched s t g i (word_at p from g s)) where
-  front : (g - 0 ≡ g) × (take (g - 0) t ≡ take g s)
-  front =
-      let z : g - 0 ≡ g = omega arith in
-      let n : length (take g s) ≡ g = length-take-le g s E.short in
-      let m : length (take g t) ≡ g = length-take-le g t (omega (arith, d.len, E.short)) in (
-        z,
-        ap (λ (j : ℕ). take j t) z
-            ∙ ext_get_or 0 (take g t) (take g s) (m ∙ sym n)
-            (λ o h. let l : o < g = omega arith in get_or-take g t o 0 l ∙ d.below o l ∙ sym (get_or-take g s o 0 l)),
-      )
-
-  pub extend_row : i < length s - g → Row p (get_or from (g + i) 0) (take (g - 0) from) (take (g - 0) t)
-  extend_row h =
-      rw (front.1, front.0)
+module _ (p : ℕ) (from s : List ℕ) (g : ℕ) (E : Extended p from g s) (xs zs row : List ℕ) (x : xs ≡ take g from) (z : zs ≡ drop g from) (r : row ≡ take g s) where
+  pub extend_row : (i : ℕ) → i + g < length s → Row p (get_or zs i 0) xs row
+  extend_row i h =
+      rw (x, z, r)
       (record {
         same = length-take-le g from (omega (arith, E.same, E.short)) ∙ sym (length-take-le g s E.short);
-        off = subst (λ (z : ℕ). Off (Apart p) z (take g from)) (get_or-drop g from i 0)
-            (cross_off p (drop g from) (take g from) i E.cross (omega (arith, length-drop g from, E.same)));
+        off = cross_off p (drop g from) (take g from) i E.cross (omega (arith, length-drop g from, E.same));
         words = E.words;
       })
 
-  pub extend_more : (r : ℕ) → i < length s - g → r ≡ row_of p (get_or from (g + i) 0) (take (g - 0) from) (take (g - 0) t)
-      → Patched s (set t (g + i) r) g (i + 1) (word_at p from g s)
-  unfolding word_at
-  extend_more r h e = patch_more s t g i (word_at p from g s) r d (omega arith) (e ∙ ap₂ (row_of p (get_or from (g + i) 0)) (ap (λ (j : ℕ). take j from) front.0) front.1)
-
-  pub extend_end : i ≤ length s - g → length s - g ≤ i → t ≡ row_words p (take g from) (drop g from) (take g s)
-  unfolding row_words patch put word_at
-  extend_end h k =
-      let n : ℕ = length s - g in
-      let F : ℕ → ℕ = λ z. row_of p z (take g from) (take g s) in
-      let f : ℕ → ℕ = word_at p from g s in
-      let l : length (tab n f) ≡ n = length_tab n f in
-      is_patch s t g n f (omega (arith, E.short)) (patch_end s t g i n f d h k)
-      ∙ ap (λ (u : List ℕ). take g s ++ (tab n f ++ u)) (drop_of_length-le s {i = g + length (tab n f)} (omega (arith, E.short)))
-      ∙ ap (λ (u : List ℕ). take g s ++ u)
-      (append-nil (tab n f)
-      ∙ sym (is_tab (map F (drop g from)) n f (length-map (drop g from) F ∙ omega (arith, length-drop g from, E.same))
-      (λ o b. map_at F (drop g from) 0 o (omega (arith, length-map (drop g from) F)) ∙ ap F (get_or-drop g from o 0))))
+  pub extend_end : (rest : List ℕ) → length rest + g ≡ length s → ((k : ℕ) → k < length rest → get_or rest k 0 ≡ row_of p (get_or zs k 0) xs row)
+      → row ++ rest ≡ row_words p (take g from) (drop g from) (take g s)
+  unfolding row_words
+  extend_end rest l h =
+      let F : ℕ → ℕ = λ y. row_of p y xs row in
+      let m : length zs ≡ length rest = ap length z ∙ omega (arith, length-drop g from, E.same) in
+      ap (λ (t : List ℕ). row ++ t)
+      (ext_get_or 0 rest (map F zs) (sym m ∙ sym (length-map zs F)) (λ k b. h k b ∙ sym (map_at F zs 0 k (omega arith))))
+      ∙ rw (x, z, r) refl
 
 -- ---- the words of a lost column
 
@@ -96,36 +69,31 @@ unfolding parity_row
 length_parity_row p xs ys j = composed_length p j ys (length ys) (table (length ys) (matrix_row p xs ys))
 
 module _ (p : ℕ) (from ys s : List ℕ) (E : Sourced p from ys s) where
-  lent : length ys - 0 ≡ length ys
-  lent = omega arith
-
   length_lent : length (take (length ys) s) ≡ length ys
   length_lent = length-take-le (length ys) s E.short
 
-  pub row_asked : Solvable p (take (length ys - 0) from) ys (take (length ys - 0) s)
-  row_asked =
-      rw lent
-      (record {
-        same_x = length-take-le (length ys) from (omega (arith, E.same, E.short)) ∙ sym length_lent;
-        same_y = sym length_lent;
-        distinct_x = E.distinct_x;
-        distinct_y = E.distinct_y;
-        cross = E.cross_lost;
-      })
+  pub row_asked : Solvable p (take (length ys) from) ys (take (length ys) s)
+  row_asked = record {
+    same_x = length-take-le (length ys) from (omega (arith, E.same, E.short)) ∙ sym length_lent;
+    same_y = sym length_lent;
+    distinct_x = E.distinct_x;
+    distinct_y = E.distinct_y;
+    cross = E.cross_lost;
+  }
 
-  pub row_number : (u : ℕ) → u < length ys → u < length (take (length ys - 0) s)
-  row_number u h = rw lent (omega (arith, length_lent))
+  pub row_number : (u : ℕ) → u < length ys → u < length (take (length ys) s)
+  row_number u h = omega (arith, length_lent)
 
   -- any row ms, where w is what the first places have now
   module _ (ms : List ℕ) (n : length ms ≡ length ys) (low : Words p ms) where
     abbrev w : List ℕ
-    w = put_mid 0 (length ys - 0) s ms
+    w = ms ++ drop (length ys) s
 
     length_put : length w ≡ length s
-    length_put = same_len_mid 0 (length ys - 0) s ms (n ∙ sym (ap (λ (j : ℕ). length (take j s)) lent ∙ length_lent))
+    length_put = length-append ms (drop (length ys) s) ∙ omega (arith, length-drop (length ys) s, E.short)
 
     front_put : take (length ys) w ≡ ms
-    front_put = take_at ms (drop (length ys - 0) s) (length ys) n
+    front_put = take_at ms (drop (length ys) s) (length ys) n
 
     row_extended : Extended p from (length ys) w
     row_extended = record {
@@ -136,37 +104,37 @@ module _ (p : ℕ) (from ys s : List ℕ) (E : Sourced p from ys s) where
     }
 
   -- the row of a lost data column
-  module _ (u : ℕ) (ms : List ℕ) (e : ms ≡ matrix_row p (take (length ys - 0) from) ys u) where
+  module _ (u : ℕ) (ms : List ℕ) (e : ms ≡ matrix_row p (take (length ys) from) ys u) where
     data_length : length ms ≡ length ys
-    data_length = ap length e ∙ length_matrix_row p (take (length ys - 0) from) ys u
+    data_length = ap length e ∙ length_matrix_row p (take (length ys) from) ys u
 
     data_low : Words p ms
     unfolding matrix_row
-    data_low = rw e (words_table p (length ys) (λ v. entry_of p (take (length ys - 0) from) ys u v) (entry_lt p (take (length ys - 0) from) ys u))
+    data_low = rw e (words_table p (length ys) (λ v. entry_of p (take (length ys) from) ys u v) (entry_lt p (take (length ys) from) ys u))
 
-    pub data_extended : Extended p from (length ys) (put_mid 0 (length ys - 0) s ms)
+    pub data_extended : Extended p from (length ys) (ms ++ drop (length ys) s)
     data_extended = row_extended ms data_length data_low
 
-    pub data_are : (t : List ℕ) → t ≡ row_words p (take (length ys) from) (drop (length ys) from) (take (length ys) (put_mid 0 (length ys - 0) s ms))
+    pub data_are : (t : List ℕ) → t ≡ row_words p (take (length ys) from) (drop (length ys) from) (take (length ys) (ms ++ drop (length ys) s))
         → t ≡ data_words p (take (length ys) from) ys (drop (length ys) from) u
     unfolding data_words
     data_are t f =
         f ∙ ap (row_words p (take (length ys) from) (drop (length ys) from))
-        (front_put ms data_length data_low ∙ e ∙ ap (λ (j : ℕ). matrix_row p (take j from) ys u) lent)
+        (front_put ms data_length data_low ∙ e)
 
   -- the row of a parity column, and then t, its words without what it takes by itself
-  module _ (j : ℕ) (ms : List ℕ) (e : ms ≡ parity_row p (take (length ys - 0) from) ys j) where
+  module _ (j : ℕ) (ms : List ℕ) (e : ms ≡ parity_row p (take (length ys) from) ys j) where
     parity_length : length ms ≡ length ys
-    parity_length = ap length e ∙ length_parity_row p (take (length ys - 0) from) ys j
+    parity_length = ap length e ∙ length_parity_row p (take (length ys) from) ys j
 
     parity_low : Words p ms
     unfolding parity_row composed_of
     parity_low = rw e (words_tab p (length ys) _ (λ c. row_lt p j ys _))
 
-    pub parity_extended : Extended p from (length ys) (put_mid 0 (length ys - 0) s ms)
+    pub parity_extended : Extended p from (length ys) (ms ++ drop (length ys) s)
     parity_extended = row_extended ms parity_length parity_low
 
-    module _ (t : List ℕ) (f : t ≡ row_words p (take (length ys) from) (drop (length ys) from) (take (length ys) (put_mid 0 (length ys - 0) s ms))) where
+    module _ (t : List ℕ) (f : t ≡ row_words p (take (length ys) from) (drop (length ys) from) (take (length ys) (ms ++ drop (length ys) s))) where
       abbrev sums : List ℕ
       sums = words_of p (take (length ys) from) ms (drop (length ys) from)
 
@@ -190,7 +158,6 @@ module _ (p : ℕ) (from ys s : List ℕ) (E : Sourced p from ys s) where
       unfolding parity_words
       parity_are v h =
           let zs : List ℕ = drop (length ys) from in
-          let ms_is : ms ≡ parity_row p (take (length ys) from) ys j = e ∙ ap (λ (i : ℕ). parity_row p (take i from) ys j) lent in
           tail_put t v (length ys)
           ∙ ap₂ ◌++◌ (ap (take (length ys)) both ∙ take_at ms sums (length ys) parity_length) (h ∙ ap₂ (λ (a b : List ℕ). with ◌⊕◌ a (map (inverse_of p j) b)) rest (tail_part from (length ys)))
-          ∙ ap (λ (l : List ℕ). l ++ with ◌⊕◌ (words_of p (take (length ys) from) l zs) (map (inverse_of p j) zs)) ms_is
+          ∙ ap (λ (l : List ℕ). l ++ with ◌⊕◌ (words_of p (take (length ys) from) l zs) (map (inverse_of p j) zs)) e

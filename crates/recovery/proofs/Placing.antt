@@ -7,7 +7,7 @@ use mathlib.Core.Path.{◌≡◌, refl, sym, ap, ap₂, ◌∙◌}
 use native.Mathlib.Omega.{arith}
 use lib.ListN.{length, get_or, set, length-map}
 use borrow.Author.Tests.{le-ltb, lt-ltb}
-use Rattle.laws.proofs.Patch.{patch_all, patch_end, patch_front}
+use Rattle.laws.proofs.Patch.{patch_all, patch_end, patch_front, patch_none}
 use Rattle.laws.proofs.Tab.{map_at}
 use Rattle.laws.specs.Choose.{choose}
 use Rattle.laws.specs.Patch.{Patched}
@@ -29,18 +29,20 @@ module _ (q : Params) (s t : List ℕ) (i : ℕ) (E : Placeable q s) (d : Patche
   same : get_or t i 0 ≡ get_or s i 0
   same = d.above i (omega arith)
 
-  pub exponent_low : i < length t → get_or t i 0 < q.k + q.r
+  pub exponent_low : i < length s → get_or t i 0 < q.k + q.r
   exponent_low h = rw same (E.low i (omega (arith, d.len)))
 
-  pub place_more : (v : ℕ) → i < length t → v ≡ place_of q (get_or t i 0) → Patched s (set t i v) 0 (i + 1) (place_at q s)
+  pub place_more : (v : ℕ) → i < length s → v ≡ place_of q (get_or t i 0) → Patched s (set t i v) 0 (i + 1) (place_at q s)
   unfolding place_at
   place_more v h e = patch_front s t i (place_at q s) v d (omega (arith, d.len)) (e ∙ ap (place_of q) same)
 
-  pub place_end : i ≤ length t → length t ≤ i → t ≡ map (place_of q) s
+  pub place_end : i ≤ length s → length s ≤ i → t ≡ map (place_of q) s
   unfolding place_at
   place_end h k =
       patch_all s t (map (place_of q) s) (place_at q s) (patch_end s t 0 i (length s) (place_at q s) d (omega (arith, d.len)) (omega (arith, d.len)))
       (length-map s (place_of q)) (λ j l. sym (map_at (place_of q) s 0 j l))
+
+pub ruleset placing = (patch_none, exponent_low, place_more, place_end)
 
 -- ---- places
 

@@ -8,13 +8,13 @@ use native.Mathlib.Omega.{arith}
 use lib.Bits.{bit_xor}
 use lib.ListN.{length, get_or, set, replicate, length-map, length-replicate}
 use lib.Pow.{pow_pos, pow_mono}
-use Rattle.laws.proofs.Patch.{patch_front, patch_all, patch_end}
+use Rattle.laws.proofs.Patch.{patch_none}
 use Rattle.laws.proofs.Xor.{zero_⊕}
 use Rattle.laws.specs.Patch.{Patched}
 use Rattle.laws.specs.Xor.{◌⊕◌}
 use Rattle.algebra.proofs.Bounds.{inverse_lt}
 use Rattle.algebra.proofs.Prime.{prime_three}
-use Rattle.algebra.proofs.Solves.{get_or_zeros, length_unit}
+use Rattle.algebra.proofs.Solves.{length_unit}
 use Rattle.algebra.proofs.Transposed.{composed_swap, cross_swap, row_swap}
 use Rattle.algebra.specs.Cauchy.{Off}
 use Rattle.algebra.specs.Lane.{Apart}
@@ -27,16 +27,6 @@ use Rattle.solver.proofs.Pass.{off_at}
 use Rattle.solver.specs.System.{System, Words}
 use Rattle.recovery.specs.Inner.{Direct, Solvable}
 use Rattle.recovery.specs.Words.{matrix_row, parity_row}
-
--- ---- all words 0
-
-pub clear_more : (s t : List ℕ) (i : ℕ) → Patched s t 0 i (λ o. 0) → i < length t → Patched s (set t i 0) 0 (i + 1) (λ o. 0)
-clear_more s t i d h = patch_front s t i (λ o. 0) 0 d (omega (arith, d.len)) refl
-
-pub clear_end : (s t : List ℕ) (i : ℕ) → Patched s t 0 i (λ o. 0) → i ≤ length t → length t ≤ i → t ≡ replicate (length s) 0
-clear_end s t i d h k =
-    patch_all s t (replicate (length s) 0) (λ o. 0) (patch_end s t 0 i (length s) (λ o. 0) d (omega (arith, d.len)) (omega (arith, d.len)))
-    (length-replicate (length s) 0) (λ j l. sym (get_or_zeros (length s) j))
 
 -- ---- the unit vector, where c is the list of zeros
 
@@ -78,16 +68,18 @@ zip_with p j (z ∷ zs) [] e = refl
 zip_with p j (z ∷ zs) (w ∷ s) e = ap (λ (l : List ℕ). (w ⊕ inverse_of p j z) ∷ l) (zip_with p j zs s (omega arith))
 
 module _ (p j : ℕ) (zs s t : List ℕ) (i : ℕ) (D : Direct p j zs s) where
-  pub inverse_asked : (f : ℕ → ℕ) → Modulus p → Patched s t 0 i f → i < length t → Exponents p j (get_or zs i 0)
+  pub inverse_asked : (f : ℕ → ℕ) → Modulus p → Patched s t 0 i f → i < length s → Exponents p j (get_or zs i 0)
   inverse_asked f P d h = record { modulus = P; apart = off_at p j zs i D.off (omega (arith, D.same, d.len)) }
 
-  pub inverse_more : (v : ℕ) → Patched s t 0 i (zip_at (inverse_added p j) zs s) → i < length t → v ≡ inverse_of p j (get_or zs i 0)
+  pub inverse_more : (v : ℕ) → Patched s t 0 i (zip_at (inverse_added p j) zs s) → i < length s → v ≡ inverse_of p j (get_or zs i 0)
       → Patched s (set t i (bit_xor (get_or t i 0) v)) 0 (i + 1) (zip_at (inverse_added p j) zs s)
   unfolding inverse_added ◌⊕◌
   inverse_more v d h e = zip_more (inverse_added p j) zs s t i (bit_xor (get_or t i 0) v) d h (ap (bit_xor (get_or t i 0)) e)
 
-  pub inverse_end : Patched s t 0 i (zip_at (inverse_added p j) zs s) → i ≤ length t → length t ≤ i → t ≡ with ◌⊕◌ s (map (inverse_of p j) zs)
+  pub inverse_end : Patched s t 0 i (zip_at (inverse_added p j) zs s) → i ≤ length s → length s ≤ i → t ≡ with ◌⊕◌ s (map (inverse_of p j) zs)
   inverse_end d h k = zip_end (inverse_added p j) zs s t i d D.same h k ∙ zip_with p j zs s D.same
+
+pub ruleset inverses_added = (patch_none, inverse_asked, inverse_more, inverse_end)
 
 -- ---- the transposed system, for the words w
 

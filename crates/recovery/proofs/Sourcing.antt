@@ -9,7 +9,7 @@ use lib.Dec.{ltb}
 use lib.ListN.{length, take, drop, length-append, length-drop}
 use lib.Seq.{drop_at, length-take-le, take_at}
 use borrow.Author.Tests.{le-ltb, lt-ltb}
-use borrow.Rule.Slice.PartMut.{put_mid, same_len_mid}
+use borrow.Rule.Slice.PartMut.{put_mid}
 use Rattle.laws.specs.Bit.{weight}
 use Rattle.laws.specs.Choose.{choose}
 use Rattle.algebra.specs.Cauchy.{Off, Distinct, Cross}
@@ -40,28 +40,28 @@ module _ (q : Params) (m : ℕ) (R : Repairable q m) (s : List ℕ) (room : leng
   front_room : g ≤ length s
   front_room = omega (arith, lost_within q m)
 
-  lent : length (take (g - 0) s) ≡ g
-  lent = let z : g - 0 ≡ g = omega arith in ap (λ (j : ℕ). length (take j s)) z ∙ length-take-le g s front_room
+  lent : length (take g s) ≡ g
+  lent = length-take-le g s front_room
 
-  pub consulted_places : length (take (g - 0) s) ≡ length (consulted q m)
+  pub consulted_places : length (take g s) ≡ length (consulted q m)
   consulted_places = lent ∙ e ∙ sym (length_consulted q m R.few)
 
   module _ (xs : List ℕ) (x : xs ≡ consulted q m) where
     length_xs : length xs ≡ g
     length_xs = ap length x ∙ length_consulted q m R.few ∙ sym e
 
-    length_put : length (put_mid 0 (g - 0) s xs) ≡ q.k
-    length_put = same_len_mid 0 (g - 0) s xs (length_xs ∙ sym lent) ∙ room
+    length_put : length (xs ++ drop g s) ≡ q.k
+    length_put = length-append xs (drop g s) ∙ omega (arith, length_xs, length-drop g s, front_room, room)
 
-    pub present_places : length (take (length (put_mid 0 (g - 0) s xs) - g) (drop g (put_mid 0 (g - 0) s xs))) ≡ length (present_exponents q m)
+    pub present_places : length (take (length (xs ++ drop g s) - g) (drop g (xs ++ drop g s))) ≡ length (present_exponents q m)
     present_places =
-        let w : List ℕ = put_mid 0 (g - 0) s xs in
+        let w : List ℕ = xs ++ drop g s in
         length-take-le (length w - g) (drop g w) (omega (arith, length-drop g w)) ∙ omega (arith, length_put, length_present q m)
 
     pub sources_are : (zs : List ℕ) → zs ≡ present_exponents q m
-        → put_mid g (length (put_mid 0 (g - 0) s xs) - g) (put_mid 0 (g - 0) s xs) zs ≡ sources q m
+        → put_mid g (length (xs ++ drop g s) - g) (xs ++ drop g s) zs ≡ sources q m
     unfolding sources
-    sources_are zs z = tail_put (put_mid 0 (g - 0) s xs) zs g ∙ ap₂ ◌++◌ (take_at xs (drop (g - 0) s) g length_xs ∙ x) z
+    sources_are zs z = tail_put (xs ++ drop g s) zs g ∙ ap₂ ◌++◌ (take_at xs (drop g s) g length_xs ∙ x) z
 
 -- ---- the words of a lost column n, by both lists
 
@@ -119,31 +119,44 @@ module _ (q : Params) (m : ℕ) (R : Repairable q m) (from ys : List ℕ) (F : f
 
 -- ---- both lists as arrays v and w have them in their first places
 
-pub lent_front : (l w : List ℕ) (k : ℕ) → length l ≡ k → take (k - 0) (put_mid 0 (k - 0) w l) ≡ l
-lent_front l w k e = let z : k - 0 ≡ k = omega arith in ap (λ (j : ℕ). take j (l ++ drop (k - 0) w)) z ∙ take_at l (drop (k - 0) w) k e
+-- a list l in the first k places of w
+first_of : (l w : List ℕ) (k : ℕ) → length l ≡ k → (take k (l ++ drop k w) ≡ l) × (k ≤ length (l ++ drop k w))
+first_of l w k e = (take_at l (drop k w) k e, omega (arith, length-append l (drop k w)))
 
-pub lent_room : (l w : List ℕ) (k : ℕ) → length l ≡ k → k ≤ length (put_mid 0 (k - 0) w l)
-lent_room l w k e = omega (arith, length-append l (drop (k - 0) w))
+-- the same of a part that code lends from place 0
+module _ (l w : List ℕ) (k : ℕ) (e : length l ≡ k) where
+  same_part : put_mid 0 (k - 0) w l ≡ l ++ drop k w
+  same_part = let z : k - 0 ≡ k = omega arith in ap (λ (j : ℕ). l ++ drop j w) z
+
+  pub lent_front : take (k - 0) (put_mid 0 (k - 0) w l) ≡ l
+  lent_front = let z : k - 0 ≡ k = omega arith in ap (λ (j : ℕ). take j (l ++ drop j w)) z ∙ (first_of l w k e).0
+
+  pub lent_room : k ≤ length (put_mid 0 (k - 0) w l)
+  lent_room = omega (arith, ap length same_part, (first_of l w k e).1)
 
 module _ (q : Params) (m : ℕ) (R : Repairable q m) (v from : List ℕ) (F : from ≡ sources q m) where
-  pub from_lent : take (q.k - 0) (put_mid 0 (q.k - 0) v from) ≡ sources q m
-  from_lent = lent_front from v q.k (ap length F ∙ length_sources q m R) ∙ F
+  pub from_lent : take q.k (from ++ drop q.k v) ≡ sources q m
+  from_lent = (first_of from v q.k (ap length F ∙ length_sources q m R)).0 ∙ F
 
-  pub from_room : q.k ≤ length (put_mid 0 (q.k - 0) v from)
-  from_room = lent_room from v q.k (ap length F ∙ length_sources q m R)
+  pub from_room : q.k ≤ length (from ++ drop q.k v)
+  from_room = (first_of from v q.k (ap length F ∙ length_sources q m R)).1
 
 module _ (q : Params) (m : ℕ) (g : ℕ) (e : g ≡ weight m q.k) where
-  pub lost_room : Repairable q m → (s : List ℕ) → length s ≡ 30 → g ≤ length s
-  lost_room R s l = omega (arith, lost_small q m R.admitted R.few)
+  pub lost_room : Repairable q m → g ≤ 30
+  lost_room R = omega (arith, lost_small q m R.admitted R.few)
 
-  pub lost_places : Repairable q m → (s : List ℕ) → length s ≡ 30 → length (take (g - 0) s) ≡ length (lost_exponents q m)
-  lost_places R s l =
-      let z : g - 0 ≡ g = omega arith in
-      ap (λ (j : ℕ). length (take j s)) z ∙ length-take-le g s (lost_room R s l) ∙ e ∙ sym (length_lost q m)
+  pub lost_part : Repairable q m → (s : List ℕ) → length s ≡ 30 → g ≡ length (take g s)
+  lost_part R s l = sym (length-take-le g s (omega (arith, lost_room R)))
+
+  pub lost_places : Repairable q m → (s : List ℕ) → length s ≡ 30 → length (take g s) ≡ length (lost_exponents q m)
+  lost_places R s l = sym (lost_part R s l) ∙ e ∙ sym (length_lost q m)
 
   module _ (w ys : List ℕ) (Y : ys ≡ lost_exponents q m) where
-    pub ys_lent : take (g - 0) (put_mid 0 (g - 0) w ys) ≡ lost_exponents q m
-    ys_lent = lent_front ys w g (ap length Y ∙ length_lost q m ∙ sym e) ∙ Y
+    pub ys_lent : take g (ys ++ drop g w) ≡ lost_exponents q m
+    ys_lent = (first_of ys w g (ap length Y ∙ length_lost q m ∙ sym e)).0 ∙ Y
 
-    pub ys_room : g ≤ length (put_mid 0 (g - 0) w ys)
-    ys_room = lent_room ys w g (ap length Y ∙ length_lost q m ∙ sym e)
+    pub ys_room : g ≤ length (ys ++ drop g w)
+    ys_room = (first_of ys w g (ap length Y ∙ length_lost q m ∙ sym e)).1
+
+    pub ys_part : g ≡ length (take g (ys ++ drop g w))
+    ys_part = sym (length-take-le g (ys ++ drop g w) ys_room)

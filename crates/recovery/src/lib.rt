@@ -1,7 +1,7 @@
 // The words by which a lost column is a sum of word · column over the columns that it is found from; a row of the recovery matrix at a time.
 #![tactic(auto)]
 
-ghost use Rattle.std.specs.Prelude.{◌≡◌, map, ◌+◌, ◌<◌, length, replicate, take, drop};
+ghost use Rattle.std.specs.Prelude.{◌≡◌, map, ◌+◌, ◌<◌, length, take, drop};
 ghost use Rattle.laws.specs.Xor.{◌⊕◌};
 ghost use Rattle.algebra.specs.Cauchy.{Off};
 ghost use Rattle.algebra.specs.Lane.{Apart};
@@ -16,23 +16,12 @@ ghost use Rattle.recovery.specs.Words.{matrix_row, parity_row, row_words, data_w
 
 use stripe::Params;
 
-// All words 0.
-fn clear(out: &mut [u64])
-    ensures { out.new ≡ replicate (length out.old) 0 }
-{
-    let mut i: usize = 0;
-    while i < out.len() {
-        out[i] = 0;
-        i += 1;
-    }
-}
-
 // The unit vector u: e = x + x^2 + .. + x^(p-1) in place u.
 fn unit(u: usize, p: usize, out: &mut [u64])
     requires { Modulus p × (u < length out.old) }
     ensures { out.new ≡ unit_of p (length out.old) u }
 {
-    clear(out);
+    out.fill(0);
     out[u] = (1 << p) - 2;
 }
 
@@ -46,14 +35,13 @@ fn row(xs: &[usize], ys: &[usize], u: usize, p: usize, out: &mut [u64])
 }
 
 // Adds what parity j takes of each of the data columns itself.
+#[tactic(auto, using(crate::proofs::Solving::inverses_added))]
 fn add_inverses(j: usize, zs: &[usize], p: usize, out: &mut [u64])
     requires { Modulus p × Direct p j zs.now out.old }
     ensures { out.new ≡ with ◌⊕◌ out.old (map (inverse_of p j) zs.now) }
 {
-    let mut i: usize = 0;
-    while i < out.len() {
-        out[i] = out[i] ^ ring::inverse(j, zs[i], p);
-        i += 1;
+    for (i, w) in out.iter_mut().enumerate() {
+        *w ^= ring::inverse(j, zs[i], p);
     }
 }
 
@@ -62,7 +50,7 @@ fn parity_row(xs: &[usize], ys: &[usize], j: usize, p: usize, out: &mut [u64])
     requires { Modulus p × Solvable p xs.now ys.now out.old × Off (Apart p) j ys.now }
     ensures { out.new ≡ parity_row p xs.now ys.now j }
 {
-    clear(out);
+    out.fill(0);
     add_inverses(j, ys, p, out);
     solver::solve(ys, xs, out, p);
 }
@@ -72,11 +60,10 @@ fn extend(from: &[usize], g: usize, p: usize, out: &mut [u64])
     requires { Modulus p × Extended p from.now g out.old }
     ensures { out.new ≡ row_words p (take g from.now) (drop g from.now) (take g out.old) }
 {
-    let rest = out.len() - g;
-    let mut i: usize = 0;
-    while i < rest {
-        out[g + i] = solver::row_sum(from[g + i], &from[0..g], &out[0..g], p);
-        i += 1;
+    let (xs, zs) = from.split_at(g);
+    let (row, rest) = out.split_at_mut(g);
+    for (i, w) in rest.iter_mut().enumerate() {
+        *w = solver::row_sum(zs[i], xs, row, p);
     }
 }
 
@@ -86,7 +73,7 @@ fn data_words(from: &[usize], ys: &[usize], u: usize, p: usize, out: &mut [u64])
     ensures { out.new ≡ data_words p (take (length ys.now) from.now) ys.now (drop (length ys.now) from.now) u }
 {
     let g = ys.len();
-    row(&from[0..g], ys, u, p, &mut out[0..g]);
+    row(&from[..g], ys, u, p, &mut out[..g]);
     extend(from, g, p, out);
 }
 
@@ -96,7 +83,7 @@ fn parity_words(from: &[usize], ys: &[usize], j: usize, p: usize, out: &mut [u64
     ensures { out.new ≡ parity_words p (take (length ys.now) from.now) ys.now (drop (length ys.now) from.now) j }
 {
     let g = ys.len();
-    parity_row(&from[0..g], ys, j, p, &mut out[0..g]);
+    parity_row(&from[..g], ys, j, p, &mut out[..g]);
     extend(from, g, p, out);
     add_inverses(j, &from[g..], p, &mut out[g..]);
 }
@@ -107,7 +94,7 @@ fn sources(q: Params, lost: u64, out: &mut [usize])
     ensures { out.new ≡ sources q lost }
 {
     let g = pattern::lost_below(lost, q.k);
-    pattern::consulted(q, lost, &mut out[0..g]);
+    pattern::consulted(q, lost, &mut out[..g]);
     pattern::present_data(q, lost, &mut out[g..]);
 }
 
@@ -124,14 +111,13 @@ fn place(q: Params, x: usize) -> usize
 }
 
 // Puts in the place of each exponent where its column starts.
+#[tactic(auto, using(crate::proofs::Placing::placing))]
 fn place_all(q: Params, xs: &mut [usize])
     requires { Placeable q xs.old }
     ensures { xs.new ≡ map (place_of q) xs.old }
 {
-    let mut i: usize = 0;
-    while i < xs.len() {
-        xs[i] = place(q, xs[i]);
-        i += 1;
+    for x in xs.iter_mut() {
+        *x = place(q, *x);
     }
 }
 
@@ -165,7 +151,7 @@ pub fn column_words(q: Params, lost: u64, n: usize, out: &mut [u64])
     let g = pattern::lost_below(lost, k);
     let mut from = pattern::no_exponents();
     let mut ys = [0usize; Params::MOST_LOST];
-    sources(q, lost, &mut from[0..k]);
-    pattern::lost_data(q, lost, &mut ys[0..g]);
-    words_by(q, lost, n, &from[0..k], &ys[0..g], out);
+    sources(q, lost, &mut from[..k]);
+    pattern::lost_data(q, lost, &mut ys[..g]);
+    words_by(q, lost, n, &from[..k], &ys[..g], out);
 }

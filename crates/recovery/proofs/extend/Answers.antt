@@ -2,18 +2,14 @@
 -- Assumes nothing.
 use native.Mathlib.Omega.{arith}
 use borrow.Author.Rules.{rules}
-use Rattle.laws.proofs.Patch.{patch_none}
-use Rattle.recovery.proofs.Extending.{extend_row, extend_more, extend_end}
+use Rattle.recovery.proofs.Extending.{extend_end, extend_row}
 use Rattle.recovery.proofs.extend.Goals as goal
 
-pub loop-i-init : goal.loop-i-init
-loop-i-init c = (omega arith, patch_none _ _ _)
-
 pub row_sum-requires : goal.row_sum-requires
-row_sum-requires c = (search rules, search extend_row)
-
-pub loop-i-preserved : goal.loop-i-preserved
-loop-i-preserved c = (omega arith, search extend_more)
+row_sum-requires c =
+    (search rules, extend_row _ _ _ _ c.requires.1 _ _ _ c.split_at.ensures.front c.split_at.ensures.back c.split_at_mut-row.ensures.front _ (omega arith))
 
 pub returns : goal.returns
-returns c = search extend_end
+returns c =
+    extend_end _ _ _ _ c.requires.1 _ _ _ c.split_at.ensures.front c.split_at.ensures.back c.split_at_mut-row.ensures.front _ (omega arith)
+    (λ k h. c.loop-i.invariant k (omega arith))

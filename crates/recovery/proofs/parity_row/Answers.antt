@@ -5,10 +5,10 @@ use Rattle.recovery.proofs.Solving.{lost_direct, inverses_system, composed_solve
 use Rattle.recovery.proofs.parity_row.Goals as goal
 
 pub add_inverses-requires : goal.add_inverses-requires
-add_inverses-requires c = (search rules, search lost_direct)
+add_inverses-requires c = (search rules, search (rules, lost_direct))
 
 pub solve-requires : goal.solve-requires
-solve-requires c = (search rules, search inverses_system)
+solve-requires c = (search rules, search (rules, inverses_system))
 
 pub returns : goal.returns
-returns c = search composed_solved
+returns c = composed_solved _ _ _ _ _ _ _ _ c.requires.0 c.requires.1 c.requires.2 (search rules) c.add_inverses.ensures c.solve.ensures
