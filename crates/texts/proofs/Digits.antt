@@ -1,6 +1,6 @@
 -- The digits of a number: how many there are, and that std writes them.
 -- Assumes nothing.
-use Prim.Native.Nat.{ℕ, zero, suc, ◌+◌, ◌-◌, ◌/◌, ◌%◌, ◌*◌, ◌^◌, ◌<◌, ◌≤◌}
+use Prim.Native.Nat.{ℕ, zero, suc, ◌+◌, ◌-◌, ◌/◌, ◌%◌, ◌*◌, ◌^◌, ◌<◌, ◌≤◌, min}
 use mathlib.Core.Bool.{Bool, true, false}
 use mathlib.Core.List.{List, [], ◌∷◌, ◌++◌}
 use mathlib.Core.Path.{◌≡◌, refl, sym, ap, ap₂, subst, ◌∙◌}
@@ -14,23 +14,18 @@ use Rattle.laws.specs.Sum.{total}
 use lib.ListN.{length, length-append}
 use Rattle.io.specs.Digits.{hex_digit_ascii, last_digits, IsDigitCount}
 use Rattle.std.proofs.Math.Nat.{pow-succ'}
-use Rattle.std.proofs.lemmas.Fmt.{decimal_by_steps}
+use Rattle.std.proofs.lemmas.Fmt.{decimal_by_steps, length-decimal-le}
 use Rattle.std.specs.Fmt.{decimal}
 use Rattle.texts.specs.Text.{places, text}
 
--- a count of the numbers below j, among those below m
-all : (m j : ℕ) → m ≤ j → total m (λ i. choose (ltb i j) 1 0) ≡ m
+-- how many of the numbers below m are below j
+counted_below : (m j : ℕ) → total m (λ i. choose (ltb i j) 1 0) ≡ min m j
 unfolding total
-all zero j h = refl
-all (suc m) j h = rw (lt-ltb m j (omega arith)) (omega (arith, all m j (omega arith)))
-
-some_below : (m j : ℕ) → j ≤ m → total m (λ i. choose (ltb i j) 1 0) ≡ j
-unfolding total
-some_below zero j h = omega arith
-some_below (suc m) j h =
-    elim (ℕ_discrete j (suc m)) [
-      | yes e ↦ all (suc m) j (omega arith) ∙ sym e
-      | no n ↦ rw (le-ltb m j (omega arith)) (omega (arith, some_below m j (omega arith)))
+counted_below zero j = omega arith
+counted_below (suc m) j =
+    elim (dec_lt m j) [
+      | yes h ↦ rw (lt-ltb m j h) (omega (arith, counted_below m j))
+      | no h ↦ rw (le-ltb m j (omega arith)) (omega (arith, counted_below m j))
     ]
 
 counted : (m : ℕ) (f g : ℕ → ℕ) → ((i : ℕ) → i < m → f i ≡ g i) → total m f ≡ total m g
@@ -53,22 +48,11 @@ module _ (n k : ℕ) (low : 1 ≤ k) (high : n < 10 ^ k) (least : 1 < k → 10 ^
         | no h ↦ let g : k - 1 ≤ i = omega arith in lt-leb (10 ^ (i + 1)) n (missed i g) ∙ sym (le-ltb i (k - 1) g)
       ]
 
-  twenty : n < 2 ^ 64 → k ≤ 20
-  twenty h =
-      elim (dec_lt 20 k) [
-        | yes l ↦ let p : 10 ^ 20 ≤ 10 ^ (k - 1) = pow-le-pow_right {n = 10} (omega arith) {i = 20} {j = k - 1} (omega arith) in absurd (omega (arith, least (omega arith)))
-        | no l ↦ omega arith
-      ]
-
-  places_are : n < 2 ^ 64 → k ≡ places n
+  places_are : k ≤ 20 → k ≡ places n
   unfolding places
   places_are h =
       let e = counted 19 (λ i. choose (leb (10 ^ (i + 1)) n) 1 0) (λ i. choose (ltb i (k - 1)) 1 0) (λ i l. ap (λ (b : Bool). choose b 1 0) (tested i)) in
-      omega (arith, e, some_below 19 (k - 1) (omega (arith, twenty h)), twenty h)
-
-digits_text : (n k : ℕ) (v : List ℕ) → n < 2 ^ 64 → IsDigitCount 10 1 n k → v ≡ last_digits 10 k n → v ≡ text n
-unfolding text
-digits_text n k v h f e = e ∙ ap (λ (j : ℕ). last_digits 10 j n) (places_are n k f.0 f.1 f.2 h)
+      omega (arith, e, counted_below 19 (k - 1))
 
 -- ---- what std writes of a number is its text
 
@@ -103,7 +87,11 @@ spelled_more n v h f l =
     rw e (one_more n (length v) h k.0, rw (ascii (n % 10) (omega arith)) (ap (λ (s : List ℕ). s ++ ((48 + n % 10) ∷ [])) k.1))
 
 pub decimal_text : (n : ℕ) → n < 2 ^ 64 → decimal n ≡ text n
-decimal_text n h = let k = decimal_by_steps Spelled spelled_one spelled_more n h h in digits_text n (length (decimal n)) (decimal n) h k.0 k.1
+unfolding text
+decimal_text n h =
+    let k = decimal_by_steps Spelled spelled_one spelled_more n h h in
+    let l : length (decimal n) ≤ 20 = length-decimal-le 20 n (omega arith) (omega arith) h in
+    k.1 ∙ ap (λ (j : ℕ). last_digits 10 j n) (places_are n (length (decimal n)) k.0.0 k.0.1 k.0.2 l)
 
 -- ---- no text of a number is longer than 20 digits
 
