@@ -33,11 +33,11 @@ use Rattle.write.specs.declared.Written.TheVariants.{Accepted}
 -- ---- the difference of two strips
 
 module _ (s : List ℕ) (at : ℕ) (v out u : List ℕ) (x : ℕ) (S : Strips s at v out) (d : Patched out u 0 x (differed s at v)) where
-  pub differ_more : x < length v → Patched out (set u x (bit_xor (get_or s (at + x) 0) (get_or v x 0))) 0 (x + 1) (differed s at v)
+  pub differ_more : x < length out → Patched out (set u x (bit_xor (get_or s (at + x) 0) (get_or v x 0))) 0 (x + 1) (differed s at v)
   unfolding differed ◌⊕◌
   differ_more h = patch_front out u x (differed s at v) _ d (omega arith) refl
 
-  pub differ_end : x ≤ length v → length v ≤ x → u ≡ tab (length v) (differed s at v)
+  pub differ_end : x ≤ length out → length out ≤ x → u ≡ tab (length v) (differed s at v)
   differ_end h g =
       let e : x ≡ length out = omega arith in
       patch_all out u (tab (length v) (differed s at v)) (differed s at v) (rw e at d) (length_tab (length v) (differed s at v) ∙ sym S.same)

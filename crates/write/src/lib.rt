@@ -30,10 +30,8 @@ fn differ(image: &[u8], at: usize, strip: &[u8], out: &mut [u8])
     requires { Strips image.now at strip.now out.old }
     ensures { out.new ≡ tab (length strip.now) (differed image.now at strip.now) }
 {
-    let mut x: usize = 0;
-    while x < strip.len() {
-        out[x] = image[at + x] ^ strip[x];
-        x += 1;
+    for (x, d) in out.iter_mut().enumerate() {
+        *d = image[at + x] ^ strip[x];
     }
 }
 

@@ -6,10 +6,10 @@ use Rattle.write.proofs.Laws.{differ_more, differ_end}
 use Rattle.write.proofs.differ.Goals as goal
 
 pub loop-x-init : goal.loop-x-init
-loop-x-init c = (omega arith, patch_none _ _ _)
+loop-x-init c = patch_none _ _ _
 
 pub loop-x-preserved : goal.loop-x-preserved
-loop-x-preserved c = (omega arith, search differ_more)
+loop-x-preserved c = search differ_more
 
 pub returns : goal.returns
 returns c = search differ_end
