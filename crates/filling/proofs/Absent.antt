@@ -36,7 +36,7 @@ use Rattle.filling.proofs.Marks.{mark_other}
 use Rattle.filling.proofs.Spots.{Kind, heads, revisions, third, columns, fourth, parities, kind, revision_byte_of, data_of, parity_of, row_below}
 use Rattle.filling.proofs.Turns.{fill_none, fill_turn, walk_whole}
 use Rattle.filling.specs.Filled.{zeros, blank, put_column, put_file, filled_from}
-use Rattle.filling.specs.Inner.{MetReady, AllReady, Clearable, cleared_one, cleared}
+use Rattle.filling.specs.Inner.{MetReady, AllReady, cleared_one, cleared}
 
 -- ---- the first columns cleared, where they were not met
 
@@ -178,10 +178,7 @@ met_later (suc most) s at m met e n b = go (λ to k f. met_later most s to k met
 
 -- ---- the turns of `clear_absent`
 
-module _ (t : List ℕ) (q : Params) (met : ℕ) (F : Fits t q) where
-  pub turn_clearable : (n : ℕ) (u : List ℕ) → n < q.k + q.r → u ≡ cleared n q met t → Clearable u q n
-  turn_clearable n u h e = record { admitted = F.admitted; below = h; room = ap length e ∙ length_cleared q met n t (omega arith) F.room }
-
+module _ (t : List ℕ) (q : Params) (met : ℕ) where
   pub turned : (n : ℕ) (u v : List ℕ) → u ≡ cleared n q met t → v ≡ cleared_one n q met u → v ≡ cleared (n + 1) q met t
   unfolding cleared
   turned n u v e f = let z : n + 1 ≡ suc n = omega arith in rw z (f ∙ ap (cleared_one n q met) e)
@@ -189,12 +186,6 @@ module _ (t : List ℕ) (q : Params) (met : ℕ) (F : Fits t q) where
   pub cleared_none : t ≡ cleared 0 q met t
   unfolding cleared
   cleared_none = refl
-
-  pub turned_all : (n : ℕ) (u : List ℕ) → u ≡ cleared n q met t → n ≤ q.k + q.r → q.k + q.r ≤ n → u ≡ cleared (q.k + q.r) q met t
-  turned_all n u e h k = let z : n ≡ q.k + q.r = omega arith in e ∙ ap (λ (x : ℕ). cleared x q met t) z
-
-  pub turned_length : (n : ℕ) (u : List ℕ) → u ≡ cleared n q met t → n ≤ q.k + q.r → length u ≡ length t
-  turned_length n u e h = ap length e ∙ length_cleared q met n t h F.room ∙ sym F.room
 
 -- ---- `clear_unmet`: the bit as the code has it
 

@@ -8,7 +8,6 @@ use lib.ListN.{length}
 use Rattle.laws.proofs.Tab.{length_tab}
 use Rattle.laws.specs.Part.{part, put}
 use Rattle.engine.specs.Strips.{Strip}
-use Rattle.stripe.proofs.Places.{revision_in}
 use Rattle.stripe.specs.Layout.{column_length, revision_at}
 use Rattle.stripe.specs.declared.Params.{Params}
 use Rattle.column_file.proofs.Columns.{carried_data, carried_parity, column_in}
@@ -25,9 +24,6 @@ module _ (s t : List ℕ) (q : Params) (at n : ℕ) (T : OneReady s t q at n) wh
   W : Whole s q at n
   W = T.whole
 
-  pub taken_revisions : (to : ℕ) → n < q.k → to ≡ revision_at n → Strip t s to (at + revisions_from) 4
-  taken_revisions to h e = record { there = omega (arith, revision_in q n h, T.room); here = omega (arith, W.here, carried_data q n h) }
-
   pub taken_strips : (c to m : ℕ) → c ≡ strips_from q n → to ≡ column_at q n → m ≡ column_length q → Strip t s to (at + c) m
   taken_strips c to m hc e f = record { there = omega (arith, column_in q n W.below, T.room); here = omega (arith, W.here) }
 
@@ -37,11 +33,6 @@ module _ (s t : List ℕ) (q : Params) (n from : ℕ) where
 
   pub no_revisions_put : (to : ℕ) → q.k ≤ n → t ≡ put t to (part s from (4 * carried q n))
   no_revisions_put to h = no_revisions s t q n to from h
-
-pub strips_put : (s t u : List ℕ) (q : Params) (at n c to m : ℕ) → c ≡ strips_from q n → to ≡ column_at q n → m ≡ column_length q → u ≡ put t to (part s (at + c) m)
-    → u ≡ put t (column_at q n) (part s (at + strips_from q n) (column_length q))
-strips_put s t u q at n c to m hc e f g =
-    g ∙ ap₂ (λ (x y : ℕ). put t to (part s (at + x) y)) hc f ∙ ap (λ (x : ℕ). put t x (part s (at + strips_from q n) (column_length q))) e
 
 pub file_put : (s t u v : List ℕ) (q : Params) (at n : ℕ) → v ≡ put u (column_at q n) (part s (at + strips_from q n) (column_length q))
     → u ≡ put t (revision_at n) (part s (at + revisions_from) (4 * carried q n)) → v ≡ put_file s at q n t

@@ -98,11 +98,8 @@ fn clear_absent(image: &mut [u8], q: Params, met: u64)
     requires { Fits image.old q }
     ensures { image.new ≡ cleared (q.k + q.r) q met image.old }
 {
-    let columns = q.k + q.r;
-    let mut n: usize = 0;
-    while n < columns {
+    for n in 0..q.k + q.r {
         clear_unmet(image, q, met, n);
-        n += 1;
     }
 }
 
