@@ -23,13 +23,10 @@ use Rattle.stripe.specs.declared.Reading.TheVariants.{Stripe, Refused as Unread}
 use Rattle.refusal.specs.declared.Outcome.{Outcome}
 use Rattle.refusal.specs.declared.Outcome.TheVariants.{Done, Refused}
 use Rattle.pattern.proofs.Asking.{asked_sound}
-use Rattle.recovery.proofs.Ranges.{places_lent, places_room}
 use Rattle.rebuild.specs.Answer.{rebuild_read, rebuild_of, restore_asked, restore_of}
 use Rattle.pattern.specs.Pattern.{asked, few_lost, pattern_fits, is_lost}
-use Rattle.pattern.specs.Inner.{Repairable}
-use Rattle.rebuild.specs.Inner.{Prepared, StripLost}
+use Rattle.rebuild.specs.Inner.{StripLost}
 use Rattle.rebuild.specs.Lost.{rebuilt, whole_byte}
-use Rattle.recovery.specs.Words.{places}
 
 -- ---- restore: w is what `ask` gave, c the scratch, l whether the column is lost
 
@@ -113,21 +110,3 @@ module _ (s : List ℕ) (m : ℕ) (w : Reading) (e : w ≡ read_of s) where
 
 pub few_told : (q : Params) (m : ℕ) (y : Bool) → y ≡ few_lost q m → not y ≡ false → few_lost q m ≡ true
 few_told q m y i j = sym i ∙ not-false y j
-
-pub lost_repaired : (s : List ℕ) (q : Params) (m : ℕ) → Image s q → few_lost q m ≡ true → Repairable q m
-lost_repaired s q m i e = record { admitted = i.admitted; few = true_T (few_lost q m) e }
-
-pub lost_room : (q : Params) (m : ℕ) (v ats : List ℕ) → few_lost q m ≡ true → ats ≡ places q m → q.k ≤ length (put_mid 0 (q.k - 0) v ats)
-lost_room q m v ats t A = places_room q m v ats (true_T (few_lost q m) t) A
-
-pub lost_prepared : (s : List ℕ) (q : Params) (m : ℕ) (v ats out : List ℕ) → Image s q → few_lost q m ≡ true → ats ≡ places q m → length out ≡ 512
-    → Prepared s q m (take (q.k - 0) (put_mid 0 (q.k - 0) v ats)) (take (q.b - 0) out)
-lost_prepared s q m v ats out i t A e =
-    let R : Repairable q m = lost_repaired s q m i t in
-    let z : q.b - 0 ≡ q.b = omega arith in
-    record {
-      image = i;
-      repairable = R;
-      ats_are = places_lent q m v ats R.few A;
-      room = ap (λ (j : ℕ). length (take j out)) z ∙ length-take-le q.b out (omega (arith, i.admitted.b_high));
-    }

@@ -22,9 +22,6 @@ use Rattle.rebuild.specs.Answer.{column_strip_at}
 use Rattle.rebuild.specs.Lost.{whole_data, whole_parity, whole_byte, rebuilt}
 use Rattle.pattern.specs.Pattern.{is_lost}
 
-pub agrees_self : (s : List ℕ) (q : Params) (m : ℕ) → AgreesOutside s s q m
-agrees_self s q m = record { len = refl; front = λ o h. refl; count = λ o h k. refl; data_there = λ i t x h k l e. refl; parity_there = λ j t x h k l e. refl }
-
 -- n places that a patch does not reach
 unreached : (s t : List ℕ) (at b a n : ℕ) (f : ℕ → ℕ) → Patched s t at b f → Clear a n at b → (x : ℕ) → x < n → get_or t (a + x) 0 ≡ get_or s (a + x) 0
 unreached s t at b a n f d (inl h) x l = d.below (a + x) (omega arith)

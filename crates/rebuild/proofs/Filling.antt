@@ -3,7 +3,7 @@
 use Prim.Native.Nat.{◌*◌, ◌+◌, ◌-◌, ◌<◌, ◌≤◌, ℕ}
 use mathlib.Core.Bool.{Bool, false, true}
 use mathlib.Core.List.{List}
-use mathlib.Core.Path.{◌∙◌, ◌≡◌, ap, ap₂, fun_ext, refl, subst, sym}
+use mathlib.Core.Path.{◌∙◌, ◌≡◌, ap, ap₂, fun_ext, subst, sym}
 use native.Mathlib.Decide.{dec_lt}
 use native.Mathlib.Nat.{zero-add}
 use native.Mathlib.Omega.{arith}
@@ -26,7 +26,7 @@ use Rattle.stripe.specs.Params.{Admitted}
 use Rattle.stripe.specs.Reading.{Image}
 use Rattle.engine.specs.Strips.{Columns, onto, taken}
 use Rattle.stripe.specs.declared.Params.{Params}
-use Rattle.rebuild.proofs.Filled.{agrees_filled, agrees_self, filled_rebuilt}
+use Rattle.rebuild.proofs.Filled.{agrees_filled, filled_rebuilt}
 use Rattle.rebuild.proofs.Independent.{agrees_image, whole_byte_agrees}
 use Rattle.recovery.proofs.Ranges.{length_column_words, length_places, places_inside, places_lent, words_lent}
 use Rattle.rebuild.proofs.Words.{words_right}
@@ -44,14 +44,6 @@ module _ (p t : ℕ) (src ats ws s c : List ℕ) (C : Columns p t src ats ws s) 
   cleared : Patched s c 0 (length s) (λ o. 0)
   unfolding patch
   cleared = patched s c 0 (length s) (λ o. 0) (omega arith) e
-
-  pub cleared_columns : Columns p t src ats ws c
-  cleared_columns = record {
-    small = C.small;
-    row = C.row;
-    same = C.same;
-    inside = λ k h. subst (λ (b : ℕ). get_or ats k 0 + (p - 1) * b ≤ length src) (sym cleared.len) (C.inside k h);
-  }
 
   pub cleared_taken : (u : List ℕ) → Patched c u 0 (length c) (onto c (taken p src (length c) t ats ws)) → u ≡ tab (length s) (taken p src (length s) t ats ws)
   unfolding onto
@@ -112,10 +104,6 @@ module _ (s : List ℕ) (q : Params) (n t : ℕ) (ats ws out : List ℕ) (S : St
 
 -- ---- one column
 
--- a column that is lost, where b is what the test gave
-pub column_away : (m n : ℕ) (b : Bool) → b ≡ is_lost m n → b ≡ true → is_lost m n ≡ true
-column_away m n b e f = sym e ∙ f
-
 column_start : (q : Params) (n u : ℕ) → column_strip_at q n u ≡ column_strip_at q n 0 + u * q.b
 column_start q n u = go (ltb n q.k)
   where
@@ -127,20 +115,6 @@ strip_before : (q : Params) (n u v x : ℕ) → u < v → x < q.b → column_str
 strip_before q n u v x h l = omega (arith, column_start q n u, column_start q n v, row_in u v q.b h)
 
 module _ (s : List ℕ) (q : Params) (m n : ℕ) (h : n < q.k + q.r) where
-  pub column_none : ColumnFilled s s q m n 0
-  column_none = record { agrees = agrees_self s q m; below = λ o l. refl; done = λ a u x l k. absurd (omega arith) }
-
-  -- a column that is not lost, where b is what the test gave
-  pub column_kept : (b : Bool) → b ≡ is_lost m n → b ≡ false → ColumnFilled s s q m n (rows q)
-  column_kept b e f = record {
-    agrees = agrees_self s q m;
-    below = λ o l. refl;
-    done = λ a u x l k. absurd (let z : ◌≡◌ {A = ℕ} 0 1 = both (is_lost m n) a (sym e ∙ f) in omega arith);
-  }
-    where
-      both : (b : Bool) → b ≡ true → b ≡ false → ◌≡◌ {A = ℕ} 0 1
-      both b x y = cc
-
   module _ (ats out : List ℕ) (P : Prepared s q m ats out) (ws : List ℕ) (W : ws ≡ column_words q m n) (t : List ℕ) (v : ℕ) (D : ColumnFilled s t q m n v) (l : v < q.p - 1) where
     few : T (few_lost q m)
     few = P.repairable.few
@@ -171,9 +145,6 @@ module _ (s : List ℕ) (q : Params) (m n : ℕ) (h : n < q.k + q.r) where
             ∙ ap₂ (λ (c y : List ℕ). taken q.p t q.b v c y x) P.ats_are W
             ∙ words_right t q m P.image.admitted few n v x a
             ∙ sym (whole_byte_agrees s t q m D.agrees x i n v h l))
-
-  pub column_end : (t : List ℕ) (v : ℕ) → ColumnFilled s t q m n v → v ≤ q.p - 1 → q.p - 1 ≤ v → ColumnFilled s t q m n (rows q)
-  column_end t v D k l = let z : v ≡ rows q = omega arith in subst (λ (j : ℕ). ColumnFilled s t q m n j) z D
 
 -- ---- all columns
 
@@ -207,13 +178,7 @@ column_before q c n u x h l k = go (dec_lt c q.k) (dec_lt n q.k)
         let i : c - q.k < n - q.k = omega arith in
         rw (le-ltb c q.k e, le-ltb n q.k d) (omega (arith, row_in u (rows q) q.b l, row_in (c - q.k) (n - q.k) (column_length q) i))
 
-pub filled_none : (s : List ℕ) (q : Params) (m : ℕ) → FilledBelow s s q m 0
-filled_none s q m = record { agrees = agrees_self s q m; done = λ c u x h l k e. absurd (omega arith) }
-
 module _ (s : List ℕ) (q : Params) (m : ℕ) (ats out : List ℕ) (P : Prepared s q m ats out) (t : List ℕ) (n : ℕ) (F : FilledBelow s t q m n) where
-  pub filled_prepared : (o : List ℕ) → length o ≡ length out → Prepared t q m ats o
-  filled_prepared o e = record { image = agrees_image s t q m F.agrees P.image; repairable = P.repairable; ats_are = P.ats_are; room = e ∙ P.room }
-
   pub filled_more : (t' : List ℕ) → n < q.k + q.r → ColumnFilled t t' q m n (rows q) → FilledBelow s t' q m (n + 1)
   filled_more t' h D = record {
     agrees = agrees_trans s t t' q m F.agrees D.agrees;

@@ -1,10 +1,7 @@
 -- `rebuild::lost_strip` meets its contract.
 -- Assumes nothing.
-use Rattle.rebuild.proofs.Filling.{cleared_columns, cleared_taken}
+use Rattle.rebuild.proofs.Filling.{cleared_taken}
 use Rattle.rebuild.proofs.lost_strip.Goals as goal
-
-pub take-requires : goal.take-requires
-take-requires c = search cleared_columns
 
 pub returns : goal.returns
 returns c = search cleared_taken
