@@ -3,269 +3,301 @@
 
 use drawing::fill;
 use parity::Checkup;
-use refusal::Outcome;
+use refusal::{Outcome, Refusal};
 use ring::Element;
-use second_ground::{Answer, Shape, answered, column_size, refused, shaped, unshaped, untested};
+use second_ground::{No, Shape, Slip, Unwritten, Written};
+use second_lost::Asked;
 use stripe::{Checked, Params, Reading};
-use total::{add, part, put_word, times, unlike, word};
-use write::Written;
+use total::part;
 
 // All numbers of refusal lie below it.
-pub const REFUSALS_END: usize = 18;
+const REFUSALS_END: usize = 18;
+
+// An answer in numbers: that of its refusal or 0, and up to four beside it.
+#[derive(Clone, Copy, PartialEq, Eq, Debug)]
+pub struct Answer(pub [u64; 5]);
+
+impl Answer {
+    // The answer of a refusal.
+    fn refused(no: u64) -> Answer {
+        Answer([no, 0, 0, 0, 0])
+    }
+
+    // The number of its refusal, or 0.
+    fn refusal(self) -> u64 {
+        self.0[0]
+    }
+
+    // How many numbers of two answers are different.
+    pub fn apart(self, other: Answer) -> usize {
+        apart(&self.0, &other.0)
+    }
+}
+
+impl From<Result<(), u64>> for Answer {
+    fn from(done: Result<(), u64>) -> Answer {
+        Answer::refused(done.err().unwrap_or(0))
+    }
+}
+
+impl From<Result<u64, u64>> for Answer {
+    fn from(word: Result<u64, u64>) -> Answer {
+        match word {
+            Ok(word) => Answer([0, word, 0, 0, 0]),
+            Err(no) => Answer::refused(no),
+        }
+    }
+}
+
+impl From<Result<Shape, u64>> for Answer {
+    fn from(shape: Result<Shape, u64>) -> Answer {
+        match shape {
+            Ok(q) => Answer([0, q.p as u64, q.k as u64, q.r as u64, q.b as u64]),
+            Err(no) => Answer::refused(no),
+        }
+    }
+}
+
+impl From<Result<Written, Unwritten>> for Answer {
+    fn from(written: Result<Written, Unwritten>) -> Answer {
+        match written {
+            Ok(to) => Answer([0, u64::from(to.revision), to.count, 0, 0]),
+            Err(no) => Answer([no.no.number(), u64::from(no.distance), 0, 0, 0]),
+        }
+    }
+}
+
+impl From<write::Written> for Answer {
+    fn from(written: write::Written) -> Answer {
+        match written {
+            write::Written::Accepted(revision, count) => {
+                Answer([0, u64::from(revision), count, 0, 0])
+            }
+            write::Written::Aged(age) => {
+                Answer([age.number(), u64::from(age.distance()), 0, 0, 0])
+            }
+            write::Written::Refused(no) => Answer::refused(no.number()),
+        }
+    }
+}
+
+// Parameters that the library found sound.
+fn of_params(q: Params) -> Shape {
+    Shape {
+        p: q.p,
+        k: q.k,
+        r: q.r,
+        b: q.b,
+        slip: None,
+    }
+}
+
+pub fn of_checked(c: Checked) -> Answer {
+    Answer::from(match c {
+        Checked::Sound(q) => Ok(of_params(q)),
+        Checked::Refused(no) => Err(no.number()),
+    })
+}
+
+pub fn of_reading(r: Reading) -> Answer {
+    Answer::from(match r {
+        Reading::Stripe(q) => Ok(of_params(q)),
+        Reading::Refused(no) => Err(no.number()),
+    })
+}
+
+fn of_element(e: Element) -> Answer {
+    Answer::from(match e {
+        Element::Word(w) => Ok(w),
+        Element::Refused(no) => Err(no.number()),
+    })
+}
+
+fn of_checkup(c: Checkup) -> Answer {
+    Answer::from(match c {
+        Checkup::Wrong(w) => Ok(w),
+        Checkup::Refused(no) => Err(no.number()),
+    })
+}
+
+pub fn of_outcome(o: Outcome) -> Answer {
+    Answer::from(match o {
+        Outcome::Done => Ok(()),
+        Outcome::Refused(no) => Err(no.number()),
+    })
+}
+
+// How many places of two slices hold different items, and one more where their lengths differ.
+pub fn apart<T: PartialEq>(s: &[T], t: &[T]) -> usize {
+    let unlike = s.iter().zip(t).filter(|(x, y)| x != y).count();
+    unlike.wrapping_add(usize::from(s.len() != t.len()))
+}
+
+// The image of each implementation, and lent room as long.
+#[derive(Drop)]
+pub struct Pair<'a> {
+    pub one: &'a mut [u8],
+    pub two: &'a mut [u8],
+    pub room: &'a mut [u8],
+}
+
+impl Pair<'_> {
+    // The first n bytes of each, where they have so many.
+    pub fn first(&mut self, n: usize) -> Option<Pair<'_>> {
+        let Pair { one, two, room } = self;
+        Some(Pair {
+            one: one.get_mut(..n)?,
+            two: two.get_mut(..n)?,
+            room: room.get_mut(..n)?,
+        })
+    }
+
+    // How many bytes of the images are different.
+    pub fn apart(&self) -> usize {
+        apart(self.one, self.two)
+    }
+}
 
 // What was seen: cases, differences, and how often the library gave each number of refusal, at 0 how often none.
-#[derive(Clone, Copy)]
+#[derive(Clone, Copy, PartialEq, Eq, Debug)]
 pub struct Tally {
     pub cases: usize,
     pub differences: usize,
     pub given: [u64; REFUSALS_END],
 }
 
-// Nothing seen yet.
-pub fn nothing() -> Tally {
-    Tally {
-        cases: 0,
-        differences: 0,
-        given: [0u64; REFUSALS_END],
+impl Tally {
+    // Nothing seen yet.
+    pub fn new() -> Tally {
+        Tally {
+            cases: 0,
+            differences: 0,
+            given: [0; REFUSALS_END],
+        }
+    }
+
+    // No case and no difference, for the next group; how often each refusal was given stands.
+    pub fn start_group(&mut self) {
+        self.cases = 0;
+        self.differences = 0;
+    }
+
+    // One more case.
+    pub fn start_case(&mut self) {
+        self.cases = self.cases.wrapping_add(1);
+    }
+
+    // More differences.
+    pub fn add(&mut self, differences: usize) {
+        self.differences = self.differences.wrapping_add(differences);
+    }
+
+    // An answer of the library, beside the one that is due.
+    pub fn compare(&mut self, answer: Answer, due: Answer) {
+        self.add(answer.apart(due));
+        if let Some(times) = self.given.get_mut(answer.refusal() as usize) {
+            *times = times.wrapping_add(1);
+        }
+    }
+
+    // The parameters' test.
+    pub fn parameters(&mut self, q: Shape) {
+        let answer = of_checked(Params::checked(q.p, q.k, q.r, q.b));
+        self.compare(answer, Answer::from(q.tested().map_err(No::number)));
+    }
+
+    // Reading.
+    pub fn read(&mut self, image: &[u8]) {
+        let due = second_ground::read(image, None).map_err(No::number);
+        self.compare(of_reading(stripe::read(image)), Answer::from(due));
+    }
+
+    // The product of two words.
+    pub fn product(&mut self, p: usize, u: u64, v: u64) {
+        let due = second_ground::product(p, u, v).map_err(No::number);
+        self.compare(of_element(ring::product(p, u, v)), Answer::from(due));
+    }
+
+    // The division of a word.
+    pub fn divide(&mut self, p: usize, s: u64, a: usize, b: usize, slip: Option<Slip>) {
+        let due = second_ground::divide(p, s, a, b, slip).map_err(No::number);
+        self.compare(of_element(ring::divide(p, s, a, b)), Answer::from(due));
+    }
+
+    // Make.
+    pub fn make(&mut self, q: Shape, given: &[u8], one: &mut [u8], two: &mut [u8]) {
+        let answer = of_outcome(parity::make(q.p, q.k, q.r, q.b, given, one));
+        let due = second::make(q, given, two).map_err(No::number);
+        self.compare(answer, Answer::from(due));
+        self.add(apart(one, two));
+    }
+
+    // Makes both images from drawn data.
+    pub fn make_drawn(&mut self, q: Shape, c: usize, pair: &mut Pair) {
+        let given = draw_data(q, c, pair.room);
+        self.make(q, given, pair.one, pair.two);
+    }
+
+    // Makes one image from drawn data, by the library.
+    pub fn make_again(&mut self, q: Shape, c: usize, image: &mut [u8], room: &mut [u8]) {
+        let given = draw_data(q, c, room);
+        let answer = of_outcome(parity::make(q.p, q.k, q.r, q.b, given, image));
+        self.compare(answer, answer);
+    }
+
+    // Refill.
+    pub fn refill(&mut self, pair: &mut Pair, slip: Option<Slip>) {
+        let answer = of_outcome(parity::refill(pair.one));
+        let due = second::refill(pair.two, slip).map_err(No::number);
+        self.compare(answer, Answer::from(due));
+        self.add(pair.apart());
+    }
+
+    // Check of the library's image.
+    pub fn check(&mut self, pair: &mut Pair, slip: Option<Slip>) {
+        let image = &mut *pair.one;
+        let answer = of_checkup(parity::check(image));
+        let due = second::check(image, pair.room, slip).map_err(No::number);
+        self.compare(answer, Answer::from(due));
+    }
+
+    // Rebuild.
+    pub fn rebuild(&mut self, pair: &mut Pair, lost: u64, slip: Option<Slip>) {
+        let answer = of_outcome(rebuild::rebuild(pair.one, lost));
+        let due = second_lost::rebuild(pair.two, lost, slip).map_err(No::number);
+        self.compare(answer, Answer::from(due));
+        self.add(pair.apart());
+    }
+
+    // Restore one strip of the library's image into scratch of a length up to 600; a longer one counts as a difference.
+    pub fn restore(&mut self, pair: &mut Pair, asked: Asked, length: usize, slip: Option<Slip>) {
+        let mut one = [7; 600];
+        let mut two = [7; 600];
+        let (Some(first), Some(second)) = (one.get_mut(..length), two.get_mut(..length)) else {
+            return self.add(1);
+        };
+        let Asked { lost, column, row } = asked;
+        let image = &mut *pair.one;
+        let answer = of_outcome(rebuild::restore(image, lost, column, row, first));
+        let due = second_lost::restore(image, asked, second, pair.room, slip);
+        self.compare(answer, Answer::from(due.map_err(No::number)));
+        self.add(apart(&one, &two));
+    }
+
+    // Show of a strip of an image, and the number of its refusal.
+    pub fn show(&mut self, image: &[u8], asked: Asked, scratch: &[u8]) {
+        let Asked { lost, column, row } = asked;
+        let number = rebuild::show_refusal(image, lost, column, row, scratch);
+        let bytes = rebuild::show(image, lost, column, row, scratch);
+        let due = second_lost::show(image, asked, scratch).map_err(No::number);
+        self.compare(Answer::refused(number), Answer::from(due.map(|_| ())));
+        self.add(apart(bytes, due.unwrap_or(&[])));
     }
 }
 
-// No case and no difference, for the next group; how often each refusal was given stands.
-pub fn afresh(t: Tally) -> Tally {
-    let given = t.given;
-    Tally {
-        cases: 0,
-        differences: 0,
-        given,
-    }
-}
-
-// One more case.
-pub fn counted(t: Tally) -> Tally {
-    let given = t.given;
-    Tally {
-        cases: add(t.cases, 1),
-        differences: t.differences,
-        given,
-    }
-}
-
-// More differences, and the number of a refusal that the library gave.
-pub fn noted(t: Tally, differences: usize, refusal: u64) -> Tally {
-    let mut given = t.given;
-    let before = word(&given, refusal as usize);
-    put_word(
-        &mut given,
-        refusal as usize,
-        std::num::wrapping_add_u64(before, 1),
-    );
-    Tally {
-        cases: t.cases,
-        differences: add(t.differences, differences),
-        given,
-    }
-}
-
-// 1 for different numbers, else 0.
-pub fn apart(a: u64, b: u64) -> usize {
-    if a != b { 1 } else { 0 }
-}
-
-// How many of the numbers of two answers are different.
-pub fn answers_apart(a: Answer, b: Answer) -> usize {
-    let numbers = add(apart(a.first, b.first), apart(a.second, b.second));
-    add(apart(a.refusal, b.refusal), numbers)
-}
-
-// How many of the numbers of two shapes are different.
-pub fn shapes_apart(a: Shape, b: Shape) -> usize {
-    let sizes = add(apart(a.p as u64, b.p as u64), apart(a.b as u64, b.b as u64));
-    let columns = add(apart(a.k as u64, b.k as u64), apart(a.r as u64, b.r as u64));
-    add(apart(a.refusal, b.refusal), add(sizes, columns))
-}
-
-// How many bytes are different in two slices, and one more where their lengths are.
-pub fn slices_apart(s: &[u8], t: &[u8]) -> usize {
-    add(
-        apart(s.len() as u64, t.len() as u64),
-        unlike(s, t, 0, s.len()),
-    )
-}
-
-// Parameters that the library found sound.
-fn of_params(q: Params) -> Shape {
-    untested(q.p, q.k, q.r, q.b, 0)
-}
-
-// The answer of the parameters' test in numbers.
-pub fn of_checked(c: Checked) -> Shape {
-    match c {
-        Checked::Sound(q) => of_params(q),
-        Checked::Refused(no) => unshaped(no.number()),
-    }
-}
-
-// The answer of reading in numbers.
-pub fn of_reading(r: Reading) -> Shape {
-    match r {
-        Reading::Stripe(q) => of_params(q),
-        Reading::Refused(no) => unshaped(no.number()),
-    }
-}
-
-// The answer of the ring's calls in numbers.
-fn of_element(e: Element) -> Answer {
-    match e {
-        Element::Word(w) => answered(0, w, 0),
-        Element::Refused(no) => refused(no.number()),
-    }
-}
-
-// The answer of check in numbers.
-fn of_checkup(c: Checkup) -> Answer {
-    match c {
-        Checkup::Wrong(w) => answered(0, w, 0),
-        Checkup::Refused(no) => refused(no.number()),
-    }
-}
-
-// The answer of write in numbers; the distance stands where the new revision would.
-pub fn of_written(w: Written) -> Answer {
-    match w {
-        Written::Accepted(revision, count) => answered(0, revision as u64, count),
-        Written::Aged(age) => answered(age.number(), age.distance() as u64, 0),
-        Written::Refused(no) => refused(no.number()),
-    }
-}
-
-// The number of a refusal, or 0.
-pub fn of_outcome(o: Outcome) -> u64 {
-    match o {
-        Outcome::Done => 0,
-        Outcome::Refused(no) => no.number(),
-    }
-}
-
-// The parameters' test of four numbers.
-pub fn parameters(t: Tally, q: Shape) -> Tally {
-    let a = of_checked(Params::checked(q.p, q.k, q.r, q.b));
-    noted(t, shapes_apart(a, shaped(q.p, q.k, q.r, q.b, 0)), a.refusal)
-}
-
-// Reading.
-pub fn read(t: Tally, image: &[u8]) -> Tally {
-    let a = of_reading(stripe::read(image));
-    noted(t, shapes_apart(a, second_ground::read(image, 0)), a.refusal)
-}
-
-// The product of two words.
-pub fn product(t: Tally, p: usize, u: u64, v: u64) -> Tally {
-    let a = of_element(ring::product(p, u, v));
-    let b = second_ground::product(p, u, v);
-    noted(t, answers_apart(a, b), a.refusal)
-}
-
-// The division of a word.
-pub fn divide(t: Tally, p: usize, s: u64, a: usize, b: usize, slip: u64) -> Tally {
-    let one = of_element(ring::divide(p, s, a, b));
-    let two = second_ground::divide(p, s, a, b, slip);
-    noted(t, answers_apart(one, two), one.refusal)
-}
-
-// Make.
-pub fn make(t: Tally, q: Shape, given: &[u8], one: &mut [u8], two: &mut [u8]) -> Tally {
-    let a = of_outcome(parity::make(q.p, q.k, q.r, q.b, given, one));
-    let b = second::make(q.p, q.k, q.r, q.b, given, two, q.slip);
-    noted(t, add(apart(a, b), slices_apart(one, two)), a)
-}
-
-// Draws the data of a stripe into lent room; gives its length.
-fn draw_data(q: Shape, c: usize, room: &mut [u8]) -> usize {
-    let n = times(q.k, column_size(q));
+// Draws the data of a stripe into lent room.
+fn draw_data(q: Shape, c: usize, room: &mut [u8]) -> &[u8] {
+    let n = q.data_size();
     fill(room, 0, n, c);
-    n
-}
-
-// Makes one image from drawn data, by the library; gives the number of a refusal, or 0.
-pub fn make_again(q: Shape, c: usize, image: &mut [u8], room: &mut [u8]) -> u64 {
-    let n = draw_data(q, c, room);
-    of_outcome(parity::make(q.p, q.k, q.r, q.b, part(room, 0, n), image))
-}
-
-// Makes both images from drawn data.
-pub fn make_drawn(
-    t: Tally,
-    q: Shape,
-    c: usize,
-    one: &mut [u8],
-    two: &mut [u8],
-    room: &mut [u8],
-) -> Tally {
-    let n = draw_data(q, c, room);
-    make(t, q, part(room, 0, n), one, two)
-}
-
-// Refill.
-pub fn refill(t: Tally, one: &mut [u8], two: &mut [u8], slip: u64) -> Tally {
-    let a = of_outcome(parity::refill(one));
-    let b = second::refill(two, slip);
-    noted(t, add(apart(a, b), slices_apart(one, two)), a)
-}
-
-// Check.
-pub fn check(t: Tally, image: &[u8], room: &mut [u8], slip: u64) -> Tally {
-    let a = of_checkup(parity::check(image));
-    let b = second::check(image, room, slip);
-    noted(t, answers_apart(a, b), a.refusal)
-}
-
-// Rebuild.
-pub fn rebuild(t: Tally, one: &mut [u8], two: &mut [u8], lost: u64, slip: u64) -> Tally {
-    let a = of_outcome(rebuild::rebuild(one, lost));
-    let b = second_lost::rebuild(two, lost, slip);
-    noted(t, add(apart(a, b), slices_apart(one, two)), a)
-}
-
-// How many bytes are different in two scratches.
-fn scratches_apart(s: &[u8; 600], t: &[u8; 600]) -> usize {
-    slices_apart(s, t)
-}
-
-// Restore one strip into scratch of a length up to 600; a longer one counts as a difference.
-pub fn restore(
-    t: Tally,
-    image: &[u8],
-    lost: u64,
-    column: usize,
-    row: usize,
-    length: usize,
-    room: &mut [u8],
-    slip: u64,
-) -> Tally {
-    let mut one = [7u8; 600];
-    let mut two = [7u8; 600];
-    if length > 600 {
-        return noted(t, 1, 0);
-    }
-    let a = of_outcome(rebuild::restore(image, lost, column, row, &mut one[0..length]));
-    let b = second_lost::restore(image, lost, column, row, &mut two[0..length], room, slip);
-    noted(t, add(apart(a, b), scratches_apart(&one, &two)), a)
-}
-
-// Show and the number of its refusal.
-pub fn show<'a>(
-    t: Tally,
-    image: &'a [u8],
-    lost: u64,
-    column: usize,
-    row: usize,
-    scratch: &'a [u8],
-) -> Tally {
-    let bytes = slices_apart(
-        rebuild::show(image, lost, column, row, scratch),
-        second_lost::show(image, lost, column, row, scratch),
-    );
-    let a = rebuild::show_refusal(image, lost, column, row, scratch);
-    let b = second_lost::show_refusal(image, lost, column, row, scratch);
-    noted(t, add(apart(a, b), bytes), a)
+    part(room, 0, n)
 }

@@ -1,10 +1,10 @@
 // Histories of writes, each in two arrangements: both implementations, and the library with itself.
 #![tactic(auto)]
 
-use comparing::{Tally, answers_apart, make_again, make_drawn, noted, of_written, slices_apart};
-use drawing::{Note, fill, note_of, spoil_lost, start_of};
-use second_ground::{Answer, Shape, answered};
-use total::{add, over, part, put_word, put32, rest, times, word};
+use comparing::{Answer, Pair, Tally};
+use drawing::{fill, note_of, spoil_lost, start_of};
+use second_ground::{Note, Shape, Slip, revision_at};
+use total::put32;
 
 // How many writes a history has.
 const WRITES: usize = 12;
@@ -18,40 +18,26 @@ pub enum Way {
     Away(u64),
 }
 
-// Sets the revisions of n columns to those of the start.
-fn set_revisions(image: &mut [u8], c: usize, n: usize) {
-    for i in 0..n {
-        put32(image, add(12, times(4, i)), start_of(c, i));
-    }
-}
-
-// Sets the revisions to those of the start, and puts drawn bytes into the columns that are away.
-fn start(image: &mut [u8], q: Shape, c: usize, way: Way) {
-    set_revisions(image, c, q.k);
-    if let Way::Away(lost) = way {
-        spoil_lost(image, q, lost, add(q.k, q.r), c);
-    }
-}
-
-// The same on both images.
-fn start_both(one: &mut [u8], two: &mut [u8], q: Shape, c: usize, way: Way) {
-    start(one, q, c, way);
-    start(two, q, c, way);
+// A history of writes: the shape of its images, the number that it is drawn from, and the call that it writes by.
+#[derive(Clone, Copy)]
+pub struct History {
+    pub q: Shape,
+    pub c: usize,
+    pub way: Way,
 }
 
 // The library's write.
-pub fn library_write(image: &mut [u8], way: Way, note: Note, strip: &[u8]) -> Answer {
-    match way {
-        Way::Whole => of_written(write::write(image, note.column, note.row, note.base, strip)),
-        Way::Away(lost) => of_written(away::write(
-            image,
-            lost,
-            note.column,
-            note.row,
-            note.base,
-            strip,
-        )),
-    }
+pub fn library_write(image: &mut [u8], way: Way, note: Note) -> Answer {
+    let Note {
+        column,
+        row,
+        base,
+        strip,
+    } = note;
+    Answer::from(match way {
+        Way::Whole => write::write(image, column, row, base, strip),
+        Way::Away(lost) => away::write(image, lost, column, row, base, strip),
+    })
 }
 
 // The second implementation's write.
@@ -59,215 +45,105 @@ pub fn second_write(
     image: &mut [u8],
     way: Way,
     note: Note,
-    strip: &[u8],
     room: &mut [u8],
-    slip: u64,
+    slip: Option<Slip>,
 ) -> Answer {
-    match way {
-        Way::Whole => second::write(image, note.column, note.row, note.base, strip, slip),
-        Way::Away(lost) => second_lost::write(
-            image,
-            lost,
-            note.column,
-            note.row,
-            note.base,
-            strip,
-            room,
-            slip,
-        ),
+    Answer::from(match way {
+        Way::Whole => second::write(image, note, slip),
+        Way::Away(lost) => second_lost::write(image, lost, note, room, slip),
+    })
+}
+
+impl History {
+    // Sets the revisions to those of the start, and puts drawn bytes into the columns that are away.
+    fn start(self, image: &mut [u8]) {
+        for i in 0..self.q.k {
+            put32(image, revision_at(i), start_of(self.c, i));
+        }
+        if let Way::Away(lost) = self.way {
+            spoil_lost(image, self.q, lost, self.c);
+        }
     }
-}
 
-// Keeps the answer to write w.
-fn keep(answers: &mut [u64; 36], w: usize, a: Answer) {
-    put_word(answers, times(3, w), a.refusal);
-    put_word(answers, add(times(3, w), 1), a.first);
-    put_word(answers, add(times(3, w), 2), a.second);
-}
-
-// The answer kept of write w.
-fn kept(answers: &[u64; 36], w: usize) -> Answer {
-    answered(
-        word(answers, times(3, w)),
-        word(answers, add(times(3, w), 1)),
-        word(answers, add(times(3, w), 2)),
-    )
-}
-
-// The drawn bytes of write w, of which it has the first.
-fn strip_of(c: usize, w: usize) -> [u8; 520] {
-    let mut strip = [0u8; 520];
-    fill(&mut strip, 0, 520, add(c, times(w, 1009)));
-    strip
-}
-
-// Write w of a case, on both images; the answer is kept.
-fn try_write(
-    t: Tally,
-    q: Shape,
-    c: usize,
-    w: usize,
-    way: Way,
-    one: &mut [u8],
-    two: &mut [u8],
-    room: &mut [u8],
-    answers: &mut [u64; 36],
-) -> Tally {
-    let note = note_of(q, c, w);
-    let bytes = strip_of(c, w);
-    let strip = part(&bytes, 0, note.width);
-    let a = library_write(one, way, note, strip);
-    let b = second_write(two, way, note, strip, room, q.slip);
-    keep(answers, w, a);
-    noted(
-        t,
-        add(answers_apart(a, b), slices_apart(one, two)),
-        a.refusal,
-    )
-}
-
-// All writes of a case, in the order of their numbers.
-fn try_writes(
-    t: Tally,
-    q: Shape,
-    c: usize,
-    way: Way,
-    one: &mut [u8],
-    two: &mut [u8],
-    room: &mut [u8],
-    answers: &mut [u64; 36],
-    n: usize,
-) -> Tally {
-    let mut seen = t;
-    for w in 0..n {
-        seen = try_write(seen, q, c, w, way, one, two, room, answers);
+    // The drawn bytes of write w, of which it has the first.
+    fn bytes_of(self, w: usize) -> [u8; 520] {
+        let mut bytes = [0; 520];
+        let c = self.c.wrapping_add(w.wrapping_mul(1009));
+        fill(&mut bytes, 0, 520, c);
+        bytes
     }
-    seen
-}
 
-// The first few writes of a case, on images of any bytes that are started for them.
-pub fn try_first(
-    t: Tally,
-    q: Shape,
-    c: usize,
-    way: Way,
-    one: &mut [u8],
-    two: &mut [u8],
-    room: &mut [u8],
-) -> Tally {
-    let mut answers = [0u64; 36];
-    start_both(one, two, q, c, way);
-    try_writes(t, q, c, way, one, two, room, &mut answers, FIRST)
-}
-
-// Step s of the other arrangement, column by column: the write, if it is one to that column, gets the answer that was kept.
-fn try_again(
-    t: Tally,
-    q: Shape,
-    c: usize,
-    s: usize,
-    way: Way,
-    image: &mut [u8],
-    answers: &[u64; 36],
-) -> Tally {
-    let w = rest(s, WRITES);
-    let note = note_of(q, c, w);
-    if note.column != over(s, WRITES) {
-        return t;
+    // Write w, on both images; gives the library's answer.
+    fn write_both(self, t: &mut Tally, pair: &mut Pair, w: usize) -> Answer {
+        let bytes = self.bytes_of(w);
+        let note = note_of(self.q, self.c, w, &bytes);
+        let answer = library_write(pair.one, self.way, note);
+        let due = second_write(pair.two, self.way, note, pair.room, self.q.slip);
+        t.compare(answer, due);
+        t.add(pair.apart());
+        answer
     }
-    let bytes = strip_of(c, w);
-    let strip = part(&bytes, 0, note.width);
-    let a = library_write(image, way, note, strip);
-    noted(t, answers_apart(a, kept(answers, w)), a.refusal)
-}
 
-// All writes of a case, column by column.
-fn try_all_again(
-    t: Tally,
-    q: Shape,
-    c: usize,
-    way: Way,
-    image: &mut [u8],
-    answers: &[u64; 36],
-    n: usize,
-) -> Tally {
-    let mut seen = t;
-    for s in 0..n {
-        seen = try_again(seen, q, c, s, way, image, answers);
+    // All writes in the order of their numbers, on both images; gives the library's answers.
+    fn write_all(self, t: &mut Tally, pair: &mut Pair) -> [Answer; WRITES] {
+        let mut answers = [Answer([0; 5]); WRITES];
+        for (w, answer) in answers.iter_mut().enumerate() {
+            *answer = self.write_both(t, pair, w);
+        }
+        answers
     }
-    seen
-}
 
-// All writes of a case once more, column by column, on one image made and started anew.
-fn try_rearranged(
-    t: Tally,
-    q: Shape,
-    c: usize,
-    way: Way,
-    image: &mut [u8],
-    room: &mut [u8],
-    answers: &[u64; 36],
-) -> Tally {
-    let made = noted(t, 0, make_again(q, c, image, room));
-    start(image, q, c, way);
-    try_all_again(made, q, c, way, image, answers, times(add(q.k, 1), WRITES))
-}
+    // The first few writes, on images of any bytes that are started for them.
+    pub fn try_first(self, t: &mut Tally, pair: &mut Pair) {
+        self.start(pair.one);
+        self.start(pair.two);
+        for w in 0..FIRST {
+            self.write_both(t, pair, w);
+        }
+    }
 
-// All writes of a case in two arrangements: answers and last images are equal.
-fn try_arrangements(
-    t: Tally,
-    q: Shape,
-    c: usize,
-    way: Way,
-    one: &mut [u8],
-    two: &mut [u8],
-    room: &mut [u8],
-) -> Tally {
-    let mut answers = [0u64; 36];
-    let once = try_writes(t, q, c, way, one, two, room, &mut answers, WRITES);
-    let twice = try_rearranged(once, q, c, way, two, room, &answers);
-    noted(twice, slices_apart(one, two), 0)
-}
+    // The writes to one column once more: each is to get the answer that it had.
+    fn write_column(self, t: &mut Tally, image: &mut [u8], answers: &[Answer], column: usize) {
+        for (w, due) in answers.iter().enumerate() {
+            let bytes = self.bytes_of(w);
+            let note = note_of(self.q, self.c, w, &bytes);
+            if note.column == column {
+                t.compare(library_write(image, self.way, note), *due);
+            }
+        }
+    }
 
-// The same on images that are made and started for it.
-fn try_started(
-    t: Tally,
-    q: Shape,
-    c: usize,
-    way: Way,
-    one: &mut [u8],
-    two: &mut [u8],
-    room: &mut [u8],
-) -> Tally {
-    let made = make_drawn(t, q, c, one, two, room);
-    start_both(one, two, q, c, way);
-    try_arrangements(made, q, c, way, one, two, room)
+    // All writes once more, column by column, on an image that is started for it.
+    fn write_again(self, t: &mut Tally, image: &mut [u8], answers: &[Answer]) {
+        self.start(image);
+        for column in 0..=self.q.k {
+            self.write_column(t, image, answers, column);
+        }
+    }
+
+    // All writes in two arrangements, on images that are made and started for it: answers and last images are equal.
+    fn try_arrangements(self, t: &mut Tally, pair: &mut Pair) {
+        t.make_drawn(self.q, self.c, pair);
+        self.start(pair.one);
+        self.start(pair.two);
+        let answers = self.write_all(t, pair);
+        t.make_again(self.q, self.c, pair.two, pair.room);
+        self.write_again(t, pair.two, &answers);
+        t.add(pair.apart());
+    }
 }
 
 // A history of writes, and a check at its end.
-pub fn try_history(
-    t: Tally,
-    q: Shape,
-    c: usize,
-    one: &mut [u8],
-    two: &mut [u8],
-    room: &mut [u8],
-) -> Tally {
-    let written = try_started(t, q, c, Way::Whole, one, two, room);
-    comparing::check(written, one, room, q.slip)
+pub fn try_history(t: &mut Tally, q: Shape, c: usize, pair: &mut Pair) {
+    let way = Way::Whole;
+    History { q, c, way }.try_arrangements(t, pair);
+    t.check(pair, q.slip);
 }
 
 // A history of writes while columns are away, then a rebuild and a check.
-pub fn try_away(
-    t: Tally,
-    q: Shape,
-    c: usize,
-    lost: u64,
-    one: &mut [u8],
-    two: &mut [u8],
-    room: &mut [u8],
-) -> Tally {
-    let written = try_started(t, q, c, Way::Away(lost), one, two, room);
-    let rebuilt = comparing::rebuild(written, one, two, lost, q.slip);
-    comparing::check(rebuilt, one, room, q.slip)
+pub fn try_away(t: &mut Tally, q: Shape, c: usize, lost: u64, pair: &mut Pair) {
+    let way = Way::Away(lost);
+    History { q, c, way }.try_arrangements(t, pair);
+    t.rebuild(pair, lost, q.slip);
+    t.check(pair, q.slip);
 }

@@ -1,234 +1,243 @@
 // The second implementation's ground, from document 01 alone: parameters, places, reading, the ring and which strips make up parity. Words are divided by
-// walking the chain c_(q-a) + c_(q-b) = s_q. Safe whatever it is handed. `slip`: 0, or the number of a slip to make.
+// walking the chain c_(q-a) + c_(q-b) = s_q. Safe whatever it is handed.
 #![tactic(auto)]
 
-use total::{add, bit, less, number16, one_at, ones, ones_below, rest, times};
+use std::cmp::Ordering;
+use total::{bit, number16, one_at, ones_below};
 
-// The numbers of refusal, read from the documents a second time.
-pub const CUT: u64 = 1;
+// The refusals, read from the documents a second time, in the order of their numbers from 1 up.
+#[derive(Clone, Copy, PartialEq, Eq, Debug)]
+pub enum No {
+    Cut = 1,
+    Tail,
+    Count,
+    Prime,
+    Shape,
+    Strip,
+    Width,
+    Column,
+    Row,
+    Stale,
+    Ahead,
+    Many,
+    Room,
+    Long,
+    Exponent,
+    Element,
+    Unclear,
+}
 
-pub const TAIL: u64 = 2;
+impl No {
+    // The number that the documents give it.
+    pub fn number(self) -> u64 {
+        self as u64
+    }
+}
 
-pub const COUNT: u64 = 3;
+// A write: the strip that is to stand in a row of a column, and the revision that it is based on.
+#[derive(Clone, Copy)]
+pub struct Note<'a> {
+    pub column: usize,
+    pub row: usize,
+    pub base: u32,
+    pub strip: &'a [u8],
+}
 
-pub const PRIME: u64 = 4;
+// A refused write: why, and for STALE and AHEAD how far the base is off.
+#[derive(Clone, Copy, PartialEq, Eq, Debug)]
+pub struct Unwritten {
+    pub no: No,
+    pub distance: u32,
+}
 
-pub const SHAPE: u64 = 5;
+impl From<No> for Unwritten {
+    fn from(no: No) -> Unwritten {
+        Unwritten { no, distance: 0 }
+    }
+}
 
-pub const STRIP: u64 = 6;
+// An accepted write: the column's new revision, and how many parity strips moved.
+#[derive(Clone, Copy, PartialEq, Eq, Debug)]
+pub struct Written {
+    pub revision: u32,
+    pub count: u64,
+}
 
-pub const WIDTH: u64 = 7;
+// The slips that can be planted.
+#[derive(Clone, Copy, PartialEq, Eq, Debug)]
+pub enum Slip {
+    // Storing the zeroed-coefficient form.
+    Zeroed,
+    // Forgetting that a changed strip also changes coefficient p-1.
+    Forgotten,
+    // Using exponents i and k+j in place of r+i and j.
+    Exponents,
+    // Comparing revisions by plain size.
+    Plain,
+    // Reading a lost column's bytes.
+    Read,
+    // Moving a lost column too.
+    Moved,
+    // Counting lost parity too.
+    Counted,
+    // Testing MANY after the base.
+    Late,
+    // Telling the distance of the other direction.
+    Opposite,
+    // Calling a base that is exactly half the circle away STALE, as document 01 had it.
+    Halved,
+}
 
-pub const COLUMN: u64 = 8;
-
-pub const ROW: u64 = 9;
-
-pub const STALE: u64 = 10;
-
-pub const AHEAD: u64 = 11;
-
-pub const MANY: u64 = 12;
-
-pub const ROOM: u64 = 13;
-
-pub const LONG: u64 = 14;
-
-pub const EXPONENT: u64 = 15;
-
-pub const ELEMENT: u64 = 16;
-
-pub const UNCLEAR: u64 = 17;
-
-// Storing the zeroed-coefficient form.
-pub const ZEROED: u64 = 1;
-// Forgetting that a changed strip also changes coefficient p-1.
-pub const FORGOTTEN: u64 = 2;
-// Using exponents i and k+j in place of r+i and j.
-pub const EXPONENTS: u64 = 3;
-// Comparing revisions by plain size.
-pub const PLAIN: u64 = 4;
-// Reading a lost column's bytes.
-pub const READ: u64 = 5;
-// Moving a lost column too.
-pub const MOVED: u64 = 6;
-// Counting lost parity too.
-pub const COUNTED: u64 = 7;
-// Testing MANY after the base.
-pub const LATE: u64 = 8;
-// Telling the distance of the other direction.
-pub const OPPOSITE: u64 = 9;
-// Calling a base that is exactly half the circle away STALE, as document 01 had it.
-pub const HALVED: u64 = 10;
+impl Slip {
+    // Each of them once.
+    pub const ALL: [Slip; 10] = [
+        Slip::Zeroed,
+        Slip::Forgotten,
+        Slip::Exponents,
+        Slip::Plain,
+        Slip::Read,
+        Slip::Moved,
+        Slip::Counted,
+        Slip::Late,
+        Slip::Opposite,
+        Slip::Halved,
+    ];
+}
 
 // Half the circle of revisions.
 pub const HALF_CIRCLE: u32 = 2147483648;
 
-// The number of a refusal or 0, and the numbers beside it.
-#[derive(Clone, Copy)]
-pub struct Answer {
-    pub refusal: u64,
-    pub first: u64,
-    pub second: u64,
-}
+// The primes that p may be.
+pub const PRIMES: [usize; 17] = [
+    3, 5, 7, 11, 13, 17, 19, 23, 29, 31, 37, 41, 43, 47, 53, 59, 61,
+];
 
-// The number of a refusal or 0, the parameters beside it, and the slip to make.
-#[derive(Clone, Copy)]
+// The parameters, and the slip to make.
+#[derive(Clone, Copy, PartialEq, Eq, Debug)]
 pub struct Shape {
-    pub refusal: u64,
     pub p: usize,
     pub k: usize,
     pub r: usize,
     pub b: usize,
-    pub slip: u64,
+    pub slip: Option<Slip>,
 }
 
-// An answer of three numbers.
-pub fn answered(refusal: u64, first: u64, second: u64) -> Answer {
-    Answer {
-        refusal,
-        first,
-        second,
+impl Shape {
+    // The same parameters, tested: PRIME, SHAPE, STRIP.
+    pub fn tested(self) -> Result<Shape, No> {
+        if !PRIMES.contains(&self.p) {
+            return Err(No::Prime);
+        }
+        if self.k == 0 || self.r == 0 || self.k > self.p || self.r > self.p - self.k {
+            return Err(No::Shape);
+        }
+        if self.b == 0 || self.b > 512 {
+            return Err(No::Strip);
+        }
+        Ok(self)
+    }
+
+    // Whether a slip is the one to make.
+    pub fn makes(self, slip: Slip) -> bool {
+        self.slip == Some(slip)
+    }
+
+    // The rows of a column.
+    pub fn rows(self) -> usize {
+        self.p.saturating_sub(1)
+    }
+
+    // The number of columns.
+    pub fn columns(self) -> usize {
+        self.parity(self.r)
+    }
+
+    // Which column parity j is.
+    pub fn parity(self, j: usize) -> usize {
+        self.k.wrapping_add(j)
+    }
+
+    // The pattern of all columns.
+    pub fn all_columns(self) -> u64 {
+        ones_below(self.columns())
+    }
+
+    // The bytes of a column.
+    pub fn column_size(self) -> usize {
+        self.rows().wrapping_mul(self.b)
+    }
+
+    // The bytes of the data.
+    pub fn data_size(self) -> usize {
+        self.k.wrapping_mul(self.column_size())
+    }
+
+    // Where column n starts: the counts of sections 1 to 3 come before a data column, that of section 4 too before parity.
+    pub fn column_at(self, n: usize) -> usize {
+        let counts = if n < self.k { 2 } else { 4 };
+        let before = n.wrapping_mul(self.column_size());
+        revision_at(self.k)
+            .wrapping_add(counts)
+            .wrapping_add(before)
+    }
+
+    // Where strip t of column n starts.
+    pub fn strip_at(self, n: usize, t: usize) -> usize {
+        self.column_at(n).wrapping_add(t.wrapping_mul(self.b))
+    }
+
+    // The length L of an image.
+    pub fn length(self) -> usize {
+        self.column_at(self.columns())
+    }
+
+    // Where the count of section 4 stands.
+    pub fn last_count_at(self) -> usize {
+        self.column_at(self.k).wrapping_sub(2)
     }
 }
 
-// The answer of a refusal.
-pub fn refused(refusal: u64) -> Answer {
-    answered(refusal, 0, 0)
-}
-
-// The shape of a refusal.
-pub fn unshaped(refusal: u64) -> Shape {
-    Shape {
-        refusal,
-        p: 0,
-        k: 0,
-        r: 0,
-        b: 0,
-        slip: 0,
-    }
-}
-
-// The shape of four numbers, untested.
-pub fn untested(p: usize, k: usize, r: usize, b: usize, slip: u64) -> Shape {
-    Shape {
-        refusal: 0,
-        p,
-        k,
-        r,
-        b,
-        slip,
-    }
-}
-
-// Whether p is an odd prime from 3 to 61.
-fn prime(p: usize) -> bool {
-    match p {
-        3 | 5 | 7 | 11 | 13 | 17 | 19 | 23 | 29 | 31 | 37 | 41 | 43 | 47 | 53 | 59 | 61 => true,
-        _ => false,
-    }
-}
-
-// Whether k = 0, r = 0 or k+r is above p, for a prime p.
-fn misshapen(p: usize, k: usize, r: usize) -> bool {
-    if k == 0 || r == 0 {
-        return true;
-    }
-    if k > p || r > p {
-        return true;
-    }
-    add(k, r) > p
-}
-
-// The shape of four numbers, tested: PRIME, SHAPE, STRIP.
-pub fn shaped(p: usize, k: usize, r: usize, b: usize, slip: u64) -> Shape {
-    if !prime(p) {
-        return unshaped(PRIME);
-    }
-    if misshapen(p, k, r) {
-        return unshaped(SHAPE);
-    }
-    if b == 0 || b > 512 {
-        return unshaped(STRIP);
-    }
-    untested(p, k, r, b, slip)
-}
-
-// The rows of a column.
-pub fn rows(q: Shape) -> usize {
-    less(q.p, 1)
-}
-
-// The bytes of a column.
-pub fn column_size(q: Shape) -> usize {
-    times(rows(q), q.b)
-}
-
-// Where column n starts: the counts of sections 1 to 3 come before a data column, that of section 4 too before parity.
-pub fn column_at(q: Shape, n: usize) -> usize {
-    let counts = if n < q.k { 14 } else { 16 };
-    add(add(counts, times(4, q.k)), times(n, column_size(q)))
-}
-
-// Where strip t of column n starts.
-pub fn strip_at(q: Shape, n: usize, t: usize) -> usize {
-    add(column_at(q, n), times(t, q.b))
-}
-
-// The length L of an image.
-pub fn length(q: Shape) -> usize {
-    add(add(16, times(4, q.k)), times(add(q.k, q.r), column_size(q)))
-}
-
-// Where the count of section 4 stands.
-pub fn last_count_at(q: Shape) -> usize {
-    less(column_at(q, q.k), 2)
-}
-
-// Reading where section 1 is sound: the length, then the other counts.
-fn read_on(image: &[u8], q: Shape) -> Shape {
-    if image.len() < length(q) {
-        return unshaped(CUT);
-    }
-    if image.len() > length(q) {
-        return unshaped(TAIL);
-    }
-    let three = add(12, times(4, q.k));
-    if number16(image, 10) != q.k
-        || number16(image, three) != q.k
-        || number16(image, last_count_at(q)) != q.r
-    {
-        return unshaped(COUNT);
-    }
-    q
+// Where the revision of a data column stands; after the last one the count of section 3.
+pub fn revision_at(column: usize) -> usize {
+    column.wrapping_mul(4).wrapping_add(12)
 }
 
 // Reading.
-pub fn read(image: &[u8], slip: u64) -> Shape {
+pub fn read(image: &[u8], slip: Option<Slip>) -> Result<Shape, No> {
     if image.len() < 2 {
-        return unshaped(CUT);
+        return Err(No::Cut);
     }
     if number16(image, 0) != 4 {
-        return unshaped(COUNT);
+        return Err(No::Count);
     }
     if image.len() < 10 {
-        return unshaped(CUT);
+        return Err(No::Cut);
     }
-    let q = shaped(
-        number16(image, 2),
-        number16(image, 4),
-        number16(image, 6),
-        number16(image, 8),
+    let q = Shape {
+        p: number16(image, 2),
+        k: number16(image, 4),
+        r: number16(image, 6),
+        b: number16(image, 8),
         slip,
-    );
-    if q.refusal != 0 {
-        return q;
     }
-    read_on(image, q)
+    .tested()?;
+    match image.len().cmp(&q.length()) {
+        Ordering::Less => return Err(No::Cut),
+        Ordering::Greater => return Err(No::Tail),
+        Ordering::Equal => {}
+    }
+    if number16(image, 10) != q.k
+        || number16(image, revision_at(q.k)) != q.k
+        || number16(image, q.last_count_at()) != q.r
+    {
+        return Err(No::Count);
+    }
+    Ok(q)
 }
 
 // Whether a word has odd weight.
 fn odd(w: u64) -> bool {
-    ones(w) % 2 == 1
+    w.count_ones() % 2 == 1
 }
 
 // Whether a word has odd weight or a bit at p or above.
@@ -238,74 +247,66 @@ fn no_element(p: usize, w: u64) -> bool {
 
 // x · w
 fn shifted(p: usize, w: u64) -> u64 {
-    let top = if bit(w, less(p, 1)) { 1 } else { 0 };
+    let top = u64::from(bit(w, p.wrapping_sub(1)));
     (w << 1 | top) & ones_below(p)
 }
 
 // The product of two words, from the highest coefficient of the first down.
 fn multiplied(p: usize, u: u64, v: u64) -> u64 {
-    let mut sum = 0;
-    for i in 0..p {
-        sum = shifted(p, sum);
-        if bit(u, less(p, add(i, 1))) {
-            sum = sum ^ v;
-        }
-    }
-    sum
+    (0..p).rev().fold(0, |sum, i| {
+        let sum = shifted(p, sum);
+        if bit(u, i) { sum ^ v } else { sum }
+    })
 }
 
 // A word c with c_(q-a) + c_(q-b) = s_q for all q but one, and c_0 = 0: from c_m to the coefficient that stands beside it in an equation.
 fn chained(p: usize, s: u64, a: usize, b: usize) -> u64 {
-    let step = add(a, less(p, b));
+    let step = a.wrapping_add(p).wrapping_sub(b);
     let mut c = 0;
-    let mut m = 0;
-    for n in 0..p {
-        let next = rest(add(m, step), p);
-        if next != 0 && bit(s, rest(add(m, a), p)) != bit(c, m) {
-            c = c | one_at(next);
+    let mut m: usize = 0;
+    for _ in 0..p {
+        let next = m.wrapping_add(step) % p;
+        if next != 0 && bit(s, m.wrapping_add(a) % p) != bit(c, m) {
+            c |= one_at(next);
         }
         m = next;
     }
     c
 }
 
-// The even-weight one of c and c + 1 + x + .. + x^(p-1).
-fn evened(p: usize, c: u64, slip: u64) -> u64 {
-    if odd(c) && slip != ZEROED {
+// s / (x^a + x^b): the even-weight one of a word of the chain and that word + 1 + x + .. + x^(p-1).
+fn divided(p: usize, s: u64, a: usize, b: usize, slip: Option<Slip>) -> u64 {
+    let c = chained(p, s, a, b);
+    if odd(c) && slip != Some(Slip::Zeroed) {
         c ^ ones_below(p)
     } else {
         c
     }
 }
 
-// s / (x^a + x^b)
-fn divided(p: usize, s: u64, a: usize, b: usize, slip: u64) -> u64 {
-    evened(p, chained(p, s, a, b), slip)
-}
-
 // The product of two elements.
-pub fn product(p: usize, u: u64, v: u64) -> Answer {
-    if !prime(p) {
-        return refused(PRIME);
+pub fn product(p: usize, u: u64, v: u64) -> Result<u64, No> {
+    if !PRIMES.contains(&p) {
+        return Err(No::Prime);
     }
     if no_element(p, u) || no_element(p, v) {
-        return refused(ELEMENT);
+        return Err(No::Element);
     }
-    answered(0, multiplied(p, u, v), 0)
+    Ok(multiplied(p, u, v))
 }
 
 // The division of an element by x^a + x^b.
-pub fn divide(p: usize, s: u64, a: usize, b: usize, slip: u64) -> Answer {
-    if !prime(p) {
-        return refused(PRIME);
+pub fn divide(p: usize, s: u64, a: usize, b: usize, slip: Option<Slip>) -> Result<u64, No> {
+    if !PRIMES.contains(&p) {
+        return Err(No::Prime);
     }
     if no_element(p, s) {
-        return refused(ELEMENT);
+        return Err(No::Element);
     }
     if a >= p || b >= p || a == b {
-        return refused(EXPONENT);
+        return Err(No::Exponent);
     }
-    answered(0, divided(p, s, a, b, slip), 0)
+    Ok(divided(p, s, a, b, slip))
 }
 
 // e = x + x^2 + .. + x^(p-1)
@@ -315,18 +316,19 @@ fn one(p: usize) -> u64 {
 
 // (x^t + x^(p-1)) / (x^a + x^b); with coefficient p-1 forgotten, x^t times the inverse of x^a + x^b.
 fn changed(q: Shape, t: usize, a: usize, b: usize) -> u64 {
-    if q.slip == FORGOTTEN {
-        return multiplied(q.p, one_at(t), divided(q.p, one(q.p), a, b, q.slip));
+    if q.makes(Slip::Forgotten) {
+        multiplied(q.p, one_at(t), divided(q.p, one(q.p), a, b, q.slip))
+    } else {
+        divided(q.p, one_at(t) | one_at(q.rows()), a, b, q.slip)
     }
-    divided(q.p, one_at(t) | one_at(rows(q)), a, b, q.slip)
 }
 
 // The rows of parity j that data strip (i, t) is added to: (x^t + x^(p-1)) / (x^j + x^(r+i)) below x^(p-1).
 pub fn touched(q: Shape, i: usize, t: usize, j: usize) -> u64 {
-    let quotient = if q.slip == EXPONENTS {
-        changed(q, t, i, add(q.k, j))
+    let quotient = if q.makes(Slip::Exponents) {
+        changed(q, t, i, q.parity(j))
     } else {
-        changed(q, t, j, add(q.r, i))
+        changed(q, t, j, q.r.wrapping_add(i))
     };
-    quotient & ones_below(rows(q))
+    quotient & ones_below(q.rows())
 }

@@ -1,14 +1,14 @@
 // The second implementation's report.
 #![tactic(auto)]
 
-use second_ground::{LONG, Shape};
+use second_ground::{No, Shape, revision_at};
 use std::io;
 use std::io::Read;
-use total::{add, bit, number32, times};
+use total::{bit, number32};
 
 // The line of a refusal.
-fn refused(rt: &impl Print, no: u64) -> io::Result<()> {
-    println!(rt; "refused {no}")
+fn refused(rt: &impl Print, no: No) -> io::Result<()> {
+    println!(rt; "refused {}", no.number())
 }
 
 // The line of the parameters.
@@ -19,7 +19,7 @@ fn shape_line(rt: &impl Print, q: Shape) -> io::Result<()> {
 // The lines of n data columns.
 fn data_lines(rt: &impl Print, image: &[u8], n: usize) -> io::Result<()> {
     for i in 0..n {
-        let revision = number32(image, add(12, times(4, i)));
+        let revision = number32(image, revision_at(i));
         println!(rt; "data {i} {revision}")?;
     }
     Ok(())
@@ -36,14 +36,14 @@ fn parity_lines(rt: &impl Print, wrong: u64, n: usize) -> io::Result<()> {
 
 // The report of an image, with lent room as long.
 fn describe(rt: &impl Print, image: &[u8], room: &mut [u8]) -> io::Result<()> {
-    let q = second_ground::read(image, 0);
-    if q.refusal != 0 {
-        return refused(rt, q.refusal);
-    }
+    let q = match second_ground::read(image, None) {
+        Ok(q) => q,
+        Err(no) => return refused(rt, no),
+    };
     shape_line(rt, q)?;
     data_lines(rt, image, q.k)?;
-    let checked = second::check(image, room, 0);
-    parity_lines(rt, checked.first, q.r)
+    let wrong = second::check(image, room, None).unwrap_or(0);
+    parity_lines(rt, wrong, q.r)
 }
 
 // The report of an input.
@@ -52,7 +52,7 @@ pub fn report(rt: &impl Print, input: &mut impl Read) -> io::Result<()> {
     let mut room = [0u8; 65537];
     let n = fronts::read_front(input, &mut front)?;
     if n > 65536 {
-        return refused(rt, LONG);
+        return refused(rt, No::Long);
     }
     describe(rt, &front[..n], &mut room)
 }

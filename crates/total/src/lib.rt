@@ -1,78 +1,57 @@
-// Numbers, words and bytes for code that is safe whatever it is handed: what lies outside reads as 0 and is never written, sums wrap.
+// Parts, bits and numbers of slices for code that is safe whatever it is handed: what does not lie within reads as 0 or as no item and is never written.
 #![tactic(auto)]
 
-// The byte at a place.
-pub fn byte(s: &[u8], at: usize) -> u8 {
-    if at < s.len() { s[at] } else { 0 }
+use std::ops::BitXorAssign;
+
+// The n items at a place; none where they do not all lie within.
+pub fn part<T>(s: &[T], at: usize, n: usize) -> &[T] {
+    s.get(at..at.wrapping_add(n)).unwrap_or(&[])
 }
 
-// Puts a byte at a place.
-pub fn put(s: &mut [u8], at: usize, v: u8) {
-    if at < s.len() {
-        s[at] = v;
+// The same, to be written.
+pub fn part_mut<T>(s: &mut [T], at: usize, n: usize) -> &mut [T] {
+    s.get_mut(at..at.wrapping_add(n)).unwrap_or(&mut [])
+}
+
+// Puts the items of one slice into another, as far as both go.
+pub fn copy<T: Copy>(to: &mut [T], from: &[T]) {
+    for (x, y) in to.iter_mut().zip(from) {
+        *x = *y;
     }
 }
 
-// The word at a place.
-pub fn word(m: &[u64], at: usize) -> u64 {
-    if at < m.len() { m[at] } else { 0 }
-}
-
-// Puts a word at a place.
-pub fn put_word(m: &mut [u64], at: usize, v: u64) {
-    if at < m.len() {
-        m[at] = v;
+// Adds the items of one slice to those of another, as far as both go.
+pub fn add<T: Copy + BitXorAssign>(to: &mut [T], from: &[T])
+    requires { (x : _) (y : _) → T.can_bitxor_assign x y }
+{
+    for (x, y) in to.iter_mut().zip(from) {
+        *x ^= *y;
     }
 }
 
-// a + b
-pub fn add(a: usize, b: usize) -> usize {
-    std::num::wrapping_add_usize(a, b)
-}
-
-// a - b
-pub fn less(a: usize, b: usize) -> usize {
-    std::num::wrapping_sub_usize(a, b)
-}
-
-// a · b for factors below 65,536
-pub fn times(a: usize, b: usize) -> usize {
-    if a < 65536 {
-        if b < 65536 {
-            return a * b;
-        }
+// The n items at one place, to be written, and those at another that do not overlap them.
+fn two_parts<T>(s: &mut [T], to: usize, from: usize, n: usize) -> Option<(&mut [T], &[T])> {
+    if to < from {
+        let (front, back) = s.split_at_mut_checked(from)?;
+        Some((front.get_mut(to..to.wrapping_add(n))?, back.get(..n)?))
+    } else {
+        let (front, back) = s.split_at_mut_checked(to)?;
+        Some((back.get_mut(..n)?, front.get(from..from.wrapping_add(n))?))
     }
-    0
 }
 
-// a modulo n
-pub fn rest(a: usize, n: usize) -> usize {
-    if n == 0 { 0 } else { a % n }
-}
-
-// How many times n goes into a.
-pub fn over(a: usize, n: usize) -> usize {
-    if n == 0 { 0 } else { a / n }
-}
-
-// A number of 32 bits as a size.
-fn widened(v: u32) -> usize {
-    v as usize
-}
-
-// The lowest byte of a word.
-pub fn low_byte(w: u64) -> u8 {
-    (w % 256) as u8
-}
-
-// The lowest half of a word.
-pub fn low_half(w: u64) -> u32 {
-    (w % 4294967296) as u32
+// Adds the n items at one place of a slice to those at another that do not overlap them.
+pub fn add_within<T: Copy + BitXorAssign>(s: &mut [T], to: usize, from: usize, n: usize)
+    requires { (x : _) (y : _) → T.can_bitxor_assign x y }
+{
+    if let Some((to, from)) = two_parts(s, to, from, n) {
+        add(to, from);
+    }
 }
 
 // Whether bit i of a word is set.
 pub fn bit(w: u64, i: usize) -> bool {
-    if i < 64 { (w >> i) % 2 == 1 } else { false }
+    i < 64 && (w >> i) % 2 == 1
 }
 
 // The word with bit i alone.
@@ -82,77 +61,42 @@ pub fn one_at(i: usize) -> u64 {
 
 // The word with the bits below n, for n below 64.
 pub fn ones_below(n: usize) -> u64 {
-    std::num::wrapping_sub_u64(one_at(n), 1)
+    one_at(n).wrapping_sub(1)
 }
 
-// How many bits of a word are set.
+// How many bits of a word are set, as a size.
 pub fn ones(w: u64) -> usize {
-    widened(u64::count_ones(w))
+    w.count_ones() as usize
 }
 
-// The lowest set bit of a word.
-fn lowest(w: u64) -> usize {
-    widened(u64::trailing_zeros(w))
-}
-
-// The u-th set bit of a word, from 0 up.
+// The u-th set bit of a word, from 0 up; 64 where it has no more than u.
 pub fn nth_one(w: u64, u: usize) -> usize {
-    let mut left = w;
-    for n in 0..u {
-        left = left & std::num::wrapping_sub_u64(left, 1);
-    }
-    lowest(left)
+    let left = (0..u).fold(w, |left, _| left & left.wrapping_sub(1));
+    left.trailing_zeros() as usize
 }
 
 // The number of 16 bits at a place, lowest byte first.
 pub fn number16(s: &[u8], at: usize) -> usize {
-    byte(s, at) as usize + byte(s, add(at, 1)) as usize * 256
+    match part(s, at, 2) {
+        [low, high] => usize::from(u16::from_le_bytes([*low, *high])),
+        _ => 0,
+    }
 }
 
 // The number of 32 bits at a place, lowest byte first.
-pub fn number32(s: &[u8], at: usize) -> u64 {
-    number16(s, at) as u64 | (number16(s, add(at, 2)) as u64) << 16
+pub fn number32(s: &[u8], at: usize) -> u32 {
+    match part(s, at, 4) {
+        [a, b, c, d] => u32::from_le_bytes([*a, *b, *c, *d]),
+        _ => 0,
+    }
 }
 
-// Puts a number of 16 bits at a place, lowest byte first.
+// Puts the lowest 16 bits of a number at a place, lowest byte first.
 pub fn put16(s: &mut [u8], at: usize, v: usize) {
-    put(s, at, low_byte(v as u64));
-    put(s, add(at, 1), low_byte(v as u64 >> 8));
+    copy(part_mut(s, at, 2), &v.to_le_bytes());
 }
 
 // Puts a number of 32 bits at a place, lowest byte first.
-pub fn put32(s: &mut [u8], at: usize, v: u64) {
-    put(s, at, low_byte(v));
-    put(s, add(at, 1), low_byte(v >> 8));
-    put(s, add(at, 2), low_byte(v >> 16));
-    put(s, add(at, 3), low_byte(v >> 24));
-}
-
-// The n bytes at a place; none where they do not all lie within.
-pub fn part(s: &[u8], at: usize, n: usize) -> &[u8] {
-    let end = add(at, n);
-    if at <= end {
-        if end <= s.len() {
-            return &s[at..end];
-        }
-    }
-    &s[0..0]
-}
-
-// Puts n bytes of one slice, from a place on, at a place of another.
-pub fn copy(to: &mut [u8], at: usize, s: &[u8], from: usize, n: usize) {
-    for x in 0..n {
-        put(to, add(at, x), byte(s, add(from, x)));
-    }
-}
-
-// How many of n places hold different bytes in two slices, from a place of both on.
-pub fn unlike(s: &[u8], t: &[u8], from: usize, n: usize) -> usize {
-    let mut count: usize = 0;
-    for x in 0..n {
-        if byte(s, add(from, x)) != byte(t, add(from, x)) {
-            count = add(count, 1);
-        }
-    }
-    count
+pub fn put32(s: &mut [u8], at: usize, v: u32) {
+    copy(part_mut(s, at, 4), &v.to_le_bytes());
 }

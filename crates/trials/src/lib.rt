@@ -1,196 +1,93 @@
 // Cases that go through the library and through the second implementation, a group of them at a time.
 #![tactic(auto)]
 
-use comparing::{Tally, counted, noted};
+use comparing::{Pair, Tally};
 use drawing::{
-    AWAY, DAMAGED, HISTORIES, MADE, RING, STRIPS, UNMADE, below, damaged_length, length_of,
-    lost_of, pattern_of, prime_of, seldom, shape_of, size_of, small_shape, word_of,
+    Group, below, damaged_length, length_of, lost_of, pattern_of, prime_of, seldom, shape_of,
+    word_of,
 };
-use histories::Way;
-use second_ground::{Shape, length};
-use total::{add, rest};
+use histories::{History, Way};
+use second_ground::{Shape, Slip};
 
-// Reading, check, restore and show.
-fn try_looks(t: Tally, q: Shape, c: usize, lost: u64, image: &[u8], room: &mut [u8]) -> Tally {
-    let checked = comparing::check(comparing::read(t, image), image, room, q.slip);
-    losses::try_strip(checked, q, c, lost, image, room)
-}
-
-// Writes, and other writes while columns are away.
-fn try_writes(
-    t: Tally,
-    q: Shape,
-    c: usize,
-    lost: u64,
-    one: &mut [u8],
-    two: &mut [u8],
-    room: &mut [u8],
-) -> Tally {
-    let whole = histories::try_first(t, q, c, Way::Whole, one, two, room);
-    histories::try_first(whole, q, add(c, 1), Way::Away(lost), one, two, room)
-}
-
-// Writes, rebuild and refill.
-fn try_changes(
-    t: Tally,
-    q: Shape,
-    c: usize,
-    lost: u64,
-    one: &mut [u8],
-    two: &mut [u8],
-    room: &mut [u8],
-) -> Tally {
-    let written = try_writes(t, q, c, lost, one, two, room);
-    let rebuilt = comparing::rebuild(written, one, two, lost, q.slip);
-    comparing::refill(rebuilt, one, two, q.slip)
-}
-
-// Every call on two images that are alike.
-fn try_calls(
-    t: Tally,
-    q: Shape,
-    c: usize,
-    one: &mut [u8],
-    two: &mut [u8],
-    room: &mut [u8],
-) -> Tally {
-    let lost = pattern_of(add(q.k, q.r), c, below(c, 60, add(q.r, 2)));
-    let looked = try_looks(t, q, c, lost, one, room);
-    try_changes(looked, q, c, lost, one, two, room)
+// Every call on two images that are alike: reading, check, restore and show; writes, and other writes while columns are away; rebuild and refill.
+fn try_calls(t: &mut Tally, q: Shape, c: usize, pair: &mut Pair) {
+    let lost = pattern_of(q.columns(), c, below(c, 60, q.r.wrapping_add(2)));
+    t.read(pair.one);
+    t.check(pair, q.slip);
+    losses::try_strip(t, q, c, lost, pair);
+    let way = Way::Whole;
+    History { q, c, way }.try_first(t, pair);
+    let (c, way) = (c.wrapping_add(1), Way::Away(lost));
+    History { q, c, way }.try_first(t, pair);
+    t.rebuild(pair, lost, q.slip);
+    t.refill(pair, q.slip);
 }
 
 // A history of writes; make, check and refill; then every call.
-fn try_strips(
-    t: Tally,
-    q: Shape,
-    c: usize,
-    one: &mut [u8],
-    two: &mut [u8],
-    room: &mut [u8],
-) -> Tally {
-    let written = histories::try_history(t, q, c, one, two, room);
-    let made = makings::try_made(written, q, c, one, two, room);
-    try_calls(made, q, c, one, two, room)
+fn try_strips(t: &mut Tally, q: Shape, c: usize, pair: &mut Pair) {
+    histories::try_history(t, q, c, pair);
+    makings::try_made(t, q, c, pair);
+    try_calls(t, q, c, pair);
 }
 
 // What a group tries on images of its shapes.
-fn try_images(
-    group: usize,
-    t: Tally,
-    q: Shape,
-    c: usize,
-    one: &mut [u8],
-    two: &mut [u8],
-    room: &mut [u8],
-) -> Tally {
-    let lost = lost_of(q, c, size_of(group, q, c));
+fn try_images(group: Group, t: &mut Tally, q: Shape, c: usize, pair: &mut Pair) {
+    let lost = lost_of(group, q, c);
     match group {
-        MADE => makings::try_made(t, q, c, one, two, room),
-        UNMADE => makings::try_unmade(t, q, c, one, two, room),
-        DAMAGED => try_calls(t, q, c, one, two, room),
-        HISTORIES => histories::try_history(t, q, c, one, two, room),
-        STRIPS => try_strips(t, q, c, one, two, room),
-        AWAY => histories::try_away(t, q, c, lost, one, two, room),
-        _ => losses::try_lost(t, q, c, lost, one, two, room),
+        Group::Made => makings::try_made(t, q, c, pair),
+        Group::Unmade => makings::try_unmade(t, q, c, pair),
+        Group::Damaged => try_calls(t, q, c, pair),
+        Group::Histories => histories::try_history(t, q, c, pair),
+        Group::Strips => try_strips(t, q, c, pair),
+        Group::Away => histories::try_away(t, q, c, lost, pair),
+        _ => losses::try_lost(t, q, c, lost, pair),
     }
 }
 
 // The same on the first n bytes of each buffer; buffers that are too short count as a difference.
-fn try_within(
-    group: usize,
-    t: Tally,
-    q: Shape,
-    c: usize,
-    n: usize,
-    one: &mut [u8],
-    two: &mut [u8],
-    room: &mut [u8],
-) -> Tally {
-    if n <= one.len() {
-        if n <= two.len() {
-            if n <= room.len() {
-                return try_images(
-                    group,
-                    t,
-                    q,
-                    c,
-                    &mut one[0..n],
-                    &mut two[0..n],
-                    &mut room[0..n],
-                );
-            }
-        }
+fn try_within(group: Group, t: &mut Tally, q: Shape, c: usize, n: usize, pair: &mut Pair) {
+    match pair.first(n) {
+        Some(mut first) => try_images(group, t, q, c, &mut first),
+        None => t.add(1),
     }
-    noted(t, 1, 0)
 }
 
 // Every call on an image whose length, counts or columns are mostly not due.
-fn try_damaged(
-    t: Tally,
-    c: usize,
-    slip: u64,
-    one: &mut [u8],
-    two: &mut [u8],
-    room: &mut [u8],
-) -> Tally {
-    let q = small_shape(c, slip);
-    let made = try_within(MADE, t, q, c, length(q), one, two, room);
-    makings::damage(one, q, c);
-    makings::damage(two, q, c);
-    try_within(DAMAGED, made, q, c, damaged_length(q, c), one, two, room)
+fn try_damaged(t: &mut Tally, q: Shape, c: usize, pair: &mut Pair) {
+    try_within(Group::Made, t, q, c, q.length(), pair);
+    makings::damage(pair.one, q, c);
+    makings::damage(pair.two, q, c);
+    try_within(Group::Damaged, t, q, c, damaged_length(q, c), pair);
 }
 
 // Product and division of drawn words.
-fn try_ring(t: Tally, c: usize, slip: u64) -> Tally {
+fn try_ring(t: &mut Tally, c: usize, slip: Option<Slip>) {
     let p = if seldom(c, 80, 12) {
         below(c, 81, 70)
     } else {
-        prime_of(rest(c, 17))
+        prime_of(c)
     };
-    let multiplied = comparing::product(t, p, word_of(p, c, 82), word_of(p, c, 84));
-    comparing::divide(
-        multiplied,
-        p,
-        word_of(p, c, 86),
-        below(c, 88, add(p, 1)),
-        below(c, 89, add(p, 1)),
-        slip,
-    )
+    let exponents = p.wrapping_add(1);
+    let (a, b) = (below(c, 88, exponents), below(c, 89, exponents));
+    t.product(p, word_of(p, c, 82), word_of(p, c, 84));
+    t.divide(p, word_of(p, c, 86), a, b, slip);
 }
 
 // Case c of a group.
-fn try_case(
-    group: usize,
-    t: Tally,
-    c: usize,
-    slip: u64,
-    one: &mut [u8],
-    two: &mut [u8],
-    room: &mut [u8],
-) -> Tally {
+fn try_case(group: Group, t: &mut Tally, c: usize, slip: Option<Slip>, pair: &mut Pair) {
+    let q = shape_of(group, c, slip);
     match group {
-        RING => try_ring(t, c, slip),
-        DAMAGED => try_damaged(t, c, slip, one, two, room),
-        _ => {
-            let q = shape_of(group, c, slip);
-            try_within(group, t, q, c, length_of(group, q, c), one, two, room)
-        }
+        Group::Ring => try_ring(t, c, slip),
+        Group::Damaged => try_damaged(t, q, c, pair),
+        _ => try_within(group, t, q, c, length_of(group, q, c), pair),
     }
 }
 
 // The first n cases of a group; refusals are counted on from those of the groups before it.
-pub fn run(
-    group: usize,
-    n: usize,
-    slip: u64,
-    before: Tally,
-    one: &mut [u8],
-    two: &mut [u8],
-    room: &mut [u8],
-) -> Tally {
-    let mut t = comparing::afresh(before);
+pub fn run(group: Group, n: usize, slip: Option<Slip>, t: &mut Tally, pair: &mut Pair) {
+    t.start_group();
     for c in 0..n {
-        t = try_case(group, counted(t), c, slip, one, two, room);
+        t.start_case();
+        try_case(group, t, c, slip, pair);
     }
-    t
 }
