@@ -5,13 +5,16 @@ use mathlib.Core.List.{List}
 use mathlib.Core.Logic.{◌≢◌}
 use mathlib.Core.Path.{◌≡◌, refl, sym, ap, ap₂, subst, ◌∙◌}
 use native.Mathlib.Decide.{dec_lt, ℕ_discrete}
-use native.Mathlib.Nat.{mod-eq_of_lt, mod-lt, zero-add, add_comm, mul-le-mul, div-add-mod', div-div-eq-div-mul, div-eq_of_lt, div-one, mod-one, pow-suc, pow-succ'}
+use native.Mathlib.Nat.{mod-eq_of_lt, mod-lt, add_comm, mul-le-mul, div-add-mod', div-div-eq-div-mul, div-eq_of_lt, div-one, mod-one, pow-suc, pow-succ'}
 use native.Mathlib.Omega.{arith}
 use lib.Arith.{digits_mod}
 use lib.Bits.{bit_xor, bit_and, differ, and_mask, and_self, and_step, xor_add_and, xor_block, xor_step, xor_zero_r}
 use lib.Count.{count_trailing_zeros, trailing_le, ones-le, under, ones, ones_in, ones_cat}
-use lib.ListN.{length, get_or}
+use lib.ListN.{length, get_or, take, drop, length-drop}
 use lib.Pow.{pow_mono, pow_pos, high, mod-pow-add}
+use borrow.Rule.Slice.PartMut.{mid_of, put_mid}
+use lib.Seq.{length-take-le, get_or-take, get_or-drop, take_all}
+use Rattle.laws.proofs.Mid.{get_or_mid, length_mid, mid_patched}
 use Rattle.laws.proofs.Bit.{bit_digit, bit_low, bit_high, bit_mod, bit_of_xor, bit_zero}
 use Rattle.laws.proofs.Place.{Place, place, before, inside, after}
 use Rattle.laws.proofs.Rows.{row_in, next_row}
@@ -20,7 +23,7 @@ use Rattle.laws.specs.Bit.{bit, weight}
 use Rattle.laws.specs.Patch.{Patched}
 use Rattle.laws.specs.Sum.{pick}
 use Rattle.laws.specs.Xor.{◌⊕◌}
-use Rattle.engine.specs.Strips.{added, copied, scattered, Strip, Rows, Lanes, Laned, Scattered}
+use Rattle.engine.specs.Strips.{scattered, Rows, Run, Spread, Scattered}
 
 -- ---- the rows of a mask
 
@@ -195,129 +198,119 @@ named_is m k x e = ap ones e ∙ weight_ones m k
 pub named_fits : (m k x : ℕ) → k ≤ 60 → x ≡ m % 2 ^ k → ones x < 2 ^ 64
 named_fits m k x h e = omega (arith, ones-le k x (cut_lt m k x e))
 
--- ---- lanes of a strip
+-- ---- a run of lanes
 
-pub lanes_strip : (s run strip : List ℕ) (at rows l w : ℕ) → Lanes s strip at rows l w → length run ≡ 128 → Strip run strip 0 l w
-lanes_strip s run strip at rows l w L e = record { there = omega (arith, L.narrow); here = L.within }
-
--- run holds the lanes; those of the rows that `left` names are still to be added, and then the rows that the mask names have them
-pub record Spread (s t strip run : List ℕ) (at rows mask left l w : ℕ) : Type 0 where
-  pub few : rows ≤ 60
-  pub within : l + w ≤ length strip
-  pub held : (i : ℕ) → i < w → get_or run i 0 ≡ get_or strip (l + i) 0
+-- what is still to be added to the rows that `left` names makes what the rows that the mask names are to have
+pub record Spreading (s t run : List ℕ) (from b rows mask left : ℕ) : Type 0 where
   pub len : length t ≡ length s
-  pub inner : (q x : ℕ) → q < rows → l ≤ x → x < l + w
-      → get_or t (at + q * length strip + x) 0 ⊕ pick (bit left q) (get_or strip x 0) ≡ get_or s (at + q * length strip + x) 0 ⊕ pick (bit mask q) (get_or strip x 0)
-  pub other : (o : ℕ) → ((q x : ℕ) → q < rows → l ≤ x → x < l + w → o ≢ at + q * length strip + x) → get_or t o 0 ≡ get_or s o 0
+  pub inner : (q x : ℕ) → q < rows → x < length run
+      → get_or t (from + q * b + x) 0 ⊕ pick (bit left q) (get_or run x 0) ≡ get_or s (from + q * b + x) 0 ⊕ pick (bit mask q) (get_or run x 0)
+  pub other : (o : ℕ) → ((q x : ℕ) → q < rows → x < length run → o ≢ from + q * b + x) → get_or t o 0 ≡ get_or s o 0
 
-pub spread_none : (s strip run₀ run : List ℕ) (at rows mask left l w : ℕ) → Lanes s strip at rows l w → Patched run₀ run 0 w (copied strip l) → left ≡ mask % 2 ^ rows
-    → Spread s s strip run at rows mask left l w
-unfolding copied
-spread_none s strip run₀ run at rows mask left l w L R e = record {
-  few = L.few;
-  within = L.within;
-  held = λ i h. ap (λ (j : ℕ). get_or run j 0) (sym (zero-add i)) ∙ R.inner i h;
+pub spreading_none : (s run : List ℕ) (from b rows mask left : ℕ) → left ≡ mask % 2 ^ rows → Spreading s s run from b rows mask left
+spreading_none s run from b rows mask left e = record {
   len = refl;
-  inner = λ q x h g k. ap (λ (b : ℕ). get_or s (at + q * length strip + x) 0 ⊕ pick b (get_or strip x 0)) (ap (λ (m : ℕ). bit m q) e ∙ bit_mod mask rows q h);
+  inner = λ q x h k. ap (λ (c : ℕ). get_or s (from + q * b + x) 0 ⊕ pick c (get_or run x 0)) (ap (λ (m : ℕ). bit m q) e ∙ bit_mod mask rows q h);
   other = λ o n. refl;
 }
 
-module _ (s t u strip run : List ℕ) (at rows mask left next q l w : ℕ) (S : Spread s t strip run at rows mask left l w)
-    (some : 0 < left) (small : left < 2 ^ rows) (first : q ≡ count_trailing_zeros 64 left)
-    (d : Patched t u (at + l + q * length strip) w (added t (at + l + q * length strip) run 0 1)) (e : next ≡ left ⊕ 2 ^ count_trailing_zeros 64 left) where
+module _ (s t run : List ℕ) (from b rows mask left q : ℕ) (R : Run s run from b rows) (S : Spreading s t run from b rows mask left)
+    (some : 0 < left) (small : left < 2 ^ rows) (first : q ≡ count_trailing_zeros 64 left) where
   set_bit : bit left q ≡ 1
-  set_bit = first_bit left q rows some small S.few first
+  set_bit = first_bit left q rows some small R.few first
 
-  turned : next ≡ left ⊕ 2 ^ q
-  turned = later_is left q rows some small S.few first next e
+  pub run_inside : from + q * b + length run ≤ length t
+  run_inside = omega (arith, R.inside, S.len, row_in q rows b (first_lt left q rows some small R.few first))
 
-  row_here : (x : ℕ) → l ≤ x → x < l + w → get_or u (at + q * length strip + x) 0 ≡ get_or t (at + q * length strip + x) 0 ⊕ get_or strip x 0
-  unfolding added pick
-  row_here x h k =
-      let i : ℕ = x - l in
-      let n : i < w = omega arith in
-      let z : at + q * length strip + x ≡ at + l + q * length strip + i = omega arith in
-      let y : l + i ≡ x = omega arith in
-      ap (λ (o : ℕ). get_or u o 0) z ∙ d.inner i n
-      ∙ ap₂ (λ (o v : ℕ). get_or t o 0 ⊕ v) (sym z) (ap (λ (j : ℕ). get_or run j 0) (zero-add i) ∙ S.held i n ∙ ap (λ (j : ℕ). get_or strip j 0) y)
+  pub run_row : length s < 2 ^ 64 → q * b < 2 ^ 64
+  run_row f = omega (arith, run_inside, S.len)
 
-  row_there : (j x : ℕ) → j ≢ q → l ≤ x → x < l + w → get_or u (at + j * length strip + x) 0 ≡ get_or t (at + j * length strip + x) 0
-  row_there j x n h k = go (place q 1 j)
-    where
-      go : Place q 1 j → get_or u (at + j * length strip + x) 0 ≡ get_or t (at + j * length strip + x) 0
-      go (before f) = d.below _ (omega (arith, S.within, row_in j q (length strip) f))
-      go (inside i f g) = absurd (n (omega arith))
-      go (after f) = let g : q < j = omega arith in d.above _ (omega (arith, S.within, row_in q j (length strip) g))
+  pub run_start : length s < 2 ^ 64 → from + q * b < 2 ^ 64
+  run_start f = omega (arith, run_inside, S.len)
 
-  inner_next : (j x : ℕ) → j < rows → l ≤ x → x < l + w
-      → get_or u (at + j * length strip + x) 0 ⊕ pick (bit next j) (get_or strip x 0) ≡ get_or t (at + j * length strip + x) 0 ⊕ pick (bit left j) (get_or strip x 0)
-  unfolding pick
-  inner_next j x h g k =
-      elim (ℕ_discrete j q) [
-        | yes f ↦
-            let v : ℕ = get_or strip x 0 in
-            let here : get_or u (at + j * length strip + x) 0 ≡ get_or t (at + j * length strip + x) 0 ⊕ v =
-            subst (λ (i : ℕ). get_or u (at + i * length strip + x) 0 ≡ get_or t (at + i * length strip + x) 0 ⊕ v) (sym f) (row_here x g k) in
-            let gone : bit next j ≡ 0 = ap₂ bit turned f ∙ flip_bit left q set_bit in
-            let was : bit left j ≡ 1 = ap (bit left) f ∙ set_bit in
-            ap₂ (λ (a c : ℕ). a ⊕ pick c v) here gone ∙ ⊕_zero (get_or t (at + j * length strip + x) 0 ⊕ v)
-            ∙ ap (λ (c : ℕ). get_or t (at + j * length strip + x) 0 ⊕ pick c v) (sym was)
-        | no f ↦ ap₂ (λ (a c : ℕ). a ⊕ pick c (get_or strip x 0)) (row_there j x f g k) (ap (λ (m : ℕ). bit m j) turned ∙ flip_rest left q j f)
-      ]
+  pub run_end : length s < 2 ^ 64 → from + q * b + length run < 2 ^ 64
+  run_end f = omega (arith, run_inside, S.len)
 
-  other_next : (o : ℕ) → ((j x : ℕ) → j < rows → l ≤ x → x < l + w → o ≢ at + j * length strip + x) → get_or u o 0 ≡ get_or t o 0
-  other_next o n = go (place (at + l + q * length strip) w o)
-    where
-      go : Place (at + l + q * length strip) w o → get_or u o 0 ≡ get_or t o 0
-      go (before f) = d.below o f
-      go (inside i f g) = absurd (n q (l + i) (bit_in left q rows small set_bit) (omega arith) (omega arith) (omega arith))
-      go (after f) = d.above o f
+  pub run_whole : (k : ℕ) → k ≡ length run → length (mid_of (from + q * b) k t) ≡ length run
+  run_whole k e = length_mid t (from + q * b) k (omega (arith, run_inside)) ∙ e
 
-  pub spread_more : Spread s u strip run at rows mask next l w
-  spread_more = record {
-    few = S.few;
-    within = S.within;
-    held = S.held;
-    len = d.len ∙ S.len;
-    inner = λ j x h g k. inner_next j x h g k ∙ S.inner j x h g k;
-    other = λ o n. other_next o n ∙ S.other o n;
-  }
+  module _ (v : List ℕ) (k next : ℕ) (z : k ≡ length run)
+      (A : Patched (mid_of (from + q * b) k t) v 0 (length (mid_of (from + q * b) k t)) (λ i. get_or (mid_of (from + q * b) k t) i 0 ⊕ get_or run i 0))
+      (e : next ≡ left ⊕ 2 ^ count_trailing_zeros 64 left) where
+    abbrev u : List ℕ
+    u = put_mid (from + q * b) k t v
 
-pub spread_fits : (s strip : List ℕ) (at rows left l w q : ℕ) → Lanes s strip at rows l w → length s < 2 ^ 64 → 0 < left → left < 2 ^ rows → q ≡ count_trailing_zeros 64 left
-    → at + l + q * length strip < 2 ^ 64
-spread_fits s strip at rows left l w q L f n h e = omega (arith, L.inside, L.within, row_in q rows (length strip) (first_lt left q rows n h L.few e))
+    row_put : Patched t u (from + q * b) k (λ x. get_or t (from + q * b + x) 0 ⊕ get_or run x 0)
+    row_put =
+        mid_patched t (from + q * b) k v _ _ (omega (arith, run_inside)) (rw (length_mid t (from + q * b) k (omega (arith, run_inside))) at A)
+        (λ i h. ap (λ (y : ℕ). y ⊕ get_or run i 0) (get_or_mid t (from + q * b) k i h))
 
-pub spread_row : (s strip : List ℕ) (at rows left l w q : ℕ) → Lanes s strip at rows l w → length s < 2 ^ 64 → 0 < left → left < 2 ^ rows → q ≡ count_trailing_zeros 64 left
-    → q * length strip < 2 ^ 64
-spread_row s strip at rows left l w q L f n h e = omega (arith, spread_fits s strip at rows left l w q L f n h e)
+    turned : next ≡ left ⊕ 2 ^ q
+    turned = later_is left q rows some small R.few first next e
 
-pub spread_strip : (s t strip run₀ run : List ℕ) (at rows mask left l w q : ℕ) → Lanes s strip at rows l w → Spread s t strip run at rows mask left l w → 0 < left → left < 2 ^ rows → q ≡ count_trailing_zeros 64 left
-    → Patched run₀ run 0 w (copied strip l) → length run₀ ≡ 128 → Strip t run (at + l + q * length strip) 0 w
-spread_strip s t strip run₀ run at rows mask left l w q L S n h e R f = record {
-  there = omega (arith, L.inside, L.within, S.len, row_in q rows (length strip) (first_lt left q rows n h L.few e));
-  here = omega (arith, L.narrow, R.len);
-}
+    row_there : (j x : ℕ) → j ≢ q → x < length run → get_or u (from + j * b + x) 0 ≡ get_or t (from + j * b + x) 0
+    row_there j x n h = go (place q 1 j)
+      where
+        go : Place q 1 j → get_or u (from + j * b + x) 0 ≡ get_or t (from + j * b + x) 0
+        go (before f) = row_put.below _ (omega (arith, R.within, row_in j q b f))
+        go (inside i f g) = absurd (n (omega arith))
+        go (after f) = let g : q < j = omega arith in row_put.above _ (omega (arith, R.within, row_in q j b g))
 
-pub spread_end : (s t strip run : List ℕ) (at rows mask left l w : ℕ) → Spread s t strip run at rows mask left l w → left ≤ 0 → Laned s t strip at rows mask l w
+    inner_next : (j x : ℕ) → x < length run
+        → get_or u (from + j * b + x) 0 ⊕ pick (bit next j) (get_or run x 0) ≡ get_or t (from + j * b + x) 0 ⊕ pick (bit left j) (get_or run x 0)
+    unfolding pick
+    inner_next j x h =
+        elim (ℕ_discrete j q) [
+          | yes f ↦
+              let y : ℕ = get_or run x 0 in
+              let here : get_or u (from + j * b + x) 0 ≡ get_or t (from + j * b + x) 0 ⊕ y =
+              subst (λ (i : ℕ). get_or u (from + i * b + x) 0 ≡ get_or t (from + i * b + x) 0 ⊕ y) (sym f) (row_put.inner x (omega arith)) in
+              let gone : bit next j ≡ 0 = ap₂ bit turned f ∙ flip_bit left q set_bit in
+              let was : bit left j ≡ 1 = ap (bit left) f ∙ set_bit in
+              ap₂ (λ (a c : ℕ). a ⊕ pick c y) here gone ∙ ⊕_zero (get_or t (from + j * b + x) 0 ⊕ y)
+              ∙ ap (λ (c : ℕ). get_or t (from + j * b + x) 0 ⊕ pick c y) (sym was)
+          | no f ↦ ap₂ (λ (a c : ℕ). a ⊕ pick c (get_or run x 0)) (row_there j x f h) (ap (λ (m : ℕ). bit m j) turned ∙ flip_rest left q j f)
+        ]
+
+    other_next : (o : ℕ) → ((j x : ℕ) → j < rows → x < length run → o ≢ from + j * b + x) → get_or u o 0 ≡ get_or t o 0
+    other_next o n = go (place (from + q * b) k o)
+      where
+        go : Place (from + q * b) k o → get_or u o 0 ≡ get_or t o 0
+        go (before f) = row_put.below o f
+        go (inside i f g) = absurd (n q i (bit_in left q rows small set_bit) (omega arith) g)
+        go (after f) = row_put.above o f
+
+    pub spreading_more : Spreading s (put_mid (from + q * b) k t v) run from b rows mask next
+    spreading_more = record {
+      len = row_put.len ∙ S.len;
+      inner = λ j x h g. inner_next j x g ∙ S.inner j x h g;
+      other = λ o n. other_next o n ∙ S.other o n;
+    }
+
+pub spreading_end : (s t run : List ℕ) (from b rows mask left : ℕ) → Spreading s t run from b rows mask left → left ≤ 0 → Spread s t run from b rows mask
 unfolding pick
-spread_end s t strip run at rows mask left l w S h =
+spreading_end s t run from b rows mask left S h =
     let z : left ≡ 0 = omega arith in
     record {
       len = S.len;
-      inner = λ q x n g k.
-          sym (⊕_zero (get_or t (at + q * length strip + x) 0))
-          ∙ ap (λ (c : ℕ). get_or t (at + q * length strip + x) 0 ⊕ pick c (get_or strip x 0)) (sym (ap (λ (m : ℕ). bit m q) z ∙ bit_zero q))
-          ∙ S.inner q x n g k;
+      inner = λ q x n g.
+          sym (⊕_zero (get_or t (from + q * b + x) 0))
+          ∙ ap (λ (c : ℕ). get_or t (from + q * b + x) 0 ⊕ pick c (get_or run x 0)) (sym (ap (λ (m : ℕ). bit m q) z ∙ bit_zero q))
+          ∙ S.inner q x n g;
       other = S.other;
     }
 
-pub fixed_laned : (s t strip : List ℕ) (at rows mask l w n : ℕ) → w ≡ n → Laned s t strip at rows mask l n → Laned s t strip at rows mask l w
-fixed_laned s t strip at rows mask l w n e L = subst (Laned s t strip at rows mask l) (sym e) L
+-- ---- the first lanes of a strip
 
--- ---- all lanes of a strip
+-- a run of a run
+pub run_front : (s run block : List ℕ) (from b rows n : ℕ) → Run s run from b rows → block ≡ take n run → n ≤ length run → Run s block from b rows
+run_front s run block from b rows n R e h =
+    let l : length (take n run) ≡ n = length-take-le n run h in
+    rw e (record { inside = omega (arith, R.inside); few = R.few; within = omega (arith, R.within) })
 
-pub laned_none : (s strip : List ℕ) (at rows mask : ℕ) → Laned s s strip at rows mask 0 0
-laned_none s strip at rows mask = record { len = refl; inner = λ q x h g k. absurd (omega arith); other = λ o n. refl }
+-- none yet
+pub lanes_none : (s strip : List ℕ) (at b rows mask : ℕ) → Spread s s (take 0 strip) at b rows mask
+lanes_none s strip at b rows mask = record { len = refl; inner = λ q x h k. absurd (omega arith); other = λ o n. refl }
 
 -- bytes of two lanes differ
 apart : (b at q x j y : ℕ) → x < b → y < b → x ≢ y → at + q * b + x ≢ at + j * b + y
@@ -325,23 +318,69 @@ apart b at q x j y h k n e =
     let f : q * b + x ≡ j * b + y = omega arith in
     n (sym (digits_mod q h) ∙ ap (λ (m : ℕ). m % b) f ∙ digits_mod j k)
 
-pub laned_more : (s t u strip : List ℕ) (at rows mask l w : ℕ) → Laned s t strip at rows mask 0 l → Laned t u strip at rows mask l w → l < length strip → w ≤ length strip - l
-    → Laned s u strip at rows mask 0 (l + w)
-laned_more s t u strip at rows mask l w A B h k = record {
-  len = B.len ∙ A.len;
-  inner = λ q x n g m. go q x n m (dec_lt x l);
-  other = λ o n. B.other o (λ q x f g m. n q x f (omega arith) (omega arith)) ∙ A.other o (λ q x f g m. n q x f g (omega arith));
-}
-  where
-    go : (q x : ℕ) → q < rows → x < 0 + (l + w) → Dec (x < l)
-        → get_or u (at + q * length strip + x) 0 ≡ get_or s (at + q * length strip + x) 0 ⊕ pick (bit mask q) (get_or strip x 0)
-    go q x n m (yes g) =
-        B.other (at + q * length strip + x) (λ j y f i p. apart (length strip) at q x j y (omega arith) (omega arith) (omega arith))
-        ∙ A.inner q x n (omega arith) (omega arith)
-    go q x n m (no g) =
-        B.inner q x n (omega arith) (omega arith)
-        ∙ ap (λ (v : ℕ). v ⊕ pick (bit mask q) (get_or strip x 0))
-        (A.other (at + q * length strip + x) (λ j y f i p. apart (length strip) at q x j y (omega arith) (omega arith) (omega arith)))
+-- the lanes that are left
+rest_is : (strip : List ℕ) (l : ℕ) → take (length strip - l) (drop l strip) ≡ drop l strip
+rest_is strip l = let d : length (drop l strip) ≡ length strip - l = length-drop l strip in take_all (length strip - l) (drop l strip) (omega arith)
+
+pub lanes_within : (strip : List ℕ) (l w : ℕ) → l < length strip → w ≤ length (take (length strip - l) (drop l strip)) → l + w ≤ length strip
+lanes_within strip l w h k = let n : w ≤ length (drop l strip) = rw rest_is at k in omega (arith, length-drop l strip)
+
+pub lanes_less : (strip : List ℕ) (l w : ℕ) → l < length strip → w ≤ length (take (length strip - l) (drop l strip)) → (0 < length (take (length strip - l) (drop l strip)) → 0 < w)
+    → length strip - (l + w) < length strip - l
+lanes_less strip l w h k f =
+    let e : length (take (length strip - l) (drop l strip)) ≡ length strip - l = ap (λ (r : List ℕ). length r) (rest_is strip l) ∙ length-drop l strip in
+    let g : 0 < length (take (length strip - l) (drop l strip)) = omega arith in
+    omega (arith, f g)
+
+module _ (s t u strip : List ℕ) (at rows mask l w : ℕ) (A : Spread s t (take l strip) at (length strip) rows mask)
+    (C : Spread t u (take w (take (length strip - l) (drop l strip))) (at + l) (length strip) rows mask) (h : l < length strip)
+    (c : w ≤ length (take (length strip - l) (drop l strip))) where
+  B : Spread t u (take w (drop l strip)) (at + l) (length strip) rows mask
+  B = rw rest_is at C
+
+  k : w ≤ length (drop l strip)
+  k = rw rest_is at c
+
+  front : length (take l strip) ≡ l
+  front = length-take-le l strip (omega arith)
+
+  back : length (take w (drop l strip)) ≡ w
+  back = length-take-le w (drop l strip) k
+
+  both : length (take (l + w) strip) ≡ l + w
+  both = length-take-le (l + w) strip (omega (arith, k, length-drop l strip))
+
+  -- the bytes of lanes below l, and of the others
+  lower : (q x : ℕ) → q < rows → x < l → get_or u (at + q * length strip + x) 0 ≡ get_or s (at + q * length strip + x) 0 ⊕ pick (bit mask q) (get_or (take (l + w) strip) x 0)
+  lower q x n g =
+      let z : get_or (take l strip) x 0 ≡ get_or (take (l + w) strip) x 0 = get_or-take l strip x 0 g ∙ sym (get_or-take (l + w) strip x 0 (omega arith)) in
+      B.other (at + q * length strip + x) (λ j y f i p. apart (length strip) at q x j (l + y) (omega arith) (omega (arith, k, back, length-drop l strip)) (omega arith) (omega arith))
+      ∙ A.inner q x n (omega (arith, front)) ∙ ap (λ (v : ℕ). get_or s (at + q * length strip + x) 0 ⊕ pick (bit mask q) v) z
+
+  upper : (q x : ℕ) → q < rows → l ≤ x → x < l + w → get_or u (at + q * length strip + x) 0 ≡ get_or s (at + q * length strip + x) 0 ⊕ pick (bit mask q) (get_or (take (l + w) strip) x 0)
+  upper q x n f g =
+      let y : ℕ = x - l in
+      let e : at + q * length strip + x ≡ at + l + q * length strip + y = omega arith in
+      let i : l + y ≡ x = omega arith in
+      let z : get_or (take w (drop l strip)) y 0 ≡ get_or (take (l + w) strip) x 0 =
+      get_or-take w (drop l strip) y 0 (omega arith) ∙ get_or-drop l strip y 0 ∙ ap (λ (o : ℕ). get_or strip o 0) i ∙ sym (get_or-take (l + w) strip x 0 g) in
+      ap (λ (o : ℕ). get_or u o 0) e ∙ B.inner q y n (omega (arith, back))
+      ∙ ap₂ (λ (o v : ℕ). get_or t o 0 ⊕ pick (bit mask q) v) (sym e) z
+      ∙ ap (λ (v : ℕ). v ⊕ pick (bit mask q) (get_or (take (l + w) strip) x 0))
+      (A.other (at + q * length strip + x) (λ j y f i p. apart (length strip) at q x j y (omega (arith, k, length-drop l strip)) (omega (arith, front)) (omega (arith, front)) (omega arith)))
+
+  pub lanes_more : Spread s u (take (l + w) strip) at (length strip) rows mask
+  lanes_more = record {
+    len = B.len ∙ A.len;
+    inner = λ q x n g. go q x n (omega (arith, both)) (dec_lt x l);
+    other = λ o n.
+        B.other o (λ q x f g. λ z. n q (l + x) f (omega (arith, back, both)) (omega arith))
+        ∙ A.other o (λ q x f g. n q x f (omega (arith, front, both)));
+  }
+    where
+      go : (q x : ℕ) → q < rows → x < l + w → Dec (x < l) → get_or u (at + q * length strip + x) 0 ≡ get_or s (at + q * length strip + x) 0 ⊕ pick (bit mask q) (get_or (take (l + w) strip) x 0)
+      go q x n m (yes g) = lower q x n g
+      go q x n m (no g) = upper q x n (omega arith) m
 
 row_lt : (o n b : ℕ) → o < n * b → o / b < n
 row_lt o n b h =
@@ -354,34 +393,30 @@ width_some : (i n b : ℕ) → i < n * b → 0 < b
 width_some i n zero h = absurd (omega arith)
 width_some i n (suc b) h = omega arith
 
-pub scatter_end : (s t strip : List ℕ) (at rows mask l x : ℕ) → Laned s t strip at rows mask 0 l → l ≤ length strip → length strip ≤ l → x ≡ weight mask rows
+pub scatter_end : (s t strip : List ℕ) (at rows mask l x : ℕ) → Spread s t (take l strip) at (length strip) rows mask → length strip ≤ l → x ≡ weight mask rows
     → Scattered s t strip at rows mask x
 unfolding scattered
-scatter_end s t strip at rows mask l x A h k e = record {
-  count = e;
-  bytes = record {
-    len = A.len;
-    below = λ o n. A.other o (λ q y f g m. λ z. omega arith);
-    inner = λ i n.
-        let b : ℕ = length strip in
-        let q : ℕ = i / b in
-        let some : 0 < b = width_some i rows b n in
-        let y : i % b < b = mod-lt i some in
-        let z : at + i ≡ at + i / b * b + i % b = omega (arith, div-add-mod' i b) in
-        ap (λ (o : ℕ). get_or t o 0) z ∙ A.inner q (i % b) (row_lt i rows b n) (omega arith) (omega arith)
-        ∙ ap (λ (o : ℕ). get_or s o 0 ⊕ pick (bit mask q) (get_or strip (i % b) 0)) (sym z);
-    above = λ o n. A.other o (λ q y f g m. λ z. omega (arith, row_in q rows (length strip) f));
-  };
-}
+scatter_end s t strip at rows mask l x C k e =
+    let A : Spread s t strip at (length strip) rows mask = subst (λ (r : List ℕ). Spread s t r at (length strip) rows mask) (take_all l strip k) C in
+    record {
+      count = e;
+      bytes = record {
+        len = A.len;
+        below = λ o n. A.other o (λ q y f g. λ z. omega arith);
+        inner = λ i n.
+            let b : ℕ = length strip in
+            let q : ℕ = i / b in
+            let some : 0 < b = width_some i rows b n in
+            let y : i % b < b = mod-lt i some in
+            let z : at + i ≡ at + i / b * b + i % b = omega (arith, div-add-mod' i b) in
+            ap (λ (o : ℕ). get_or t o 0) z ∙ A.inner q (i % b) (row_lt i rows b n) y
+            ∙ ap (λ (o : ℕ). get_or s o 0 ⊕ pick (bit mask q) (get_or strip (i % b) 0)) (sym z);
+        above = λ o n. A.other o (λ q y f g. λ z. omega (arith, row_in q rows (length strip) f));
+      };
+    }
 
-pub scatter_lanes : (s t strip : List ℕ) (at rows mask l w : ℕ) → Rows s strip at rows → Laned s t strip at rows mask 0 l → l < length strip → w ≤ length strip - l → w ≤ 128
-    → Lanes t strip at rows l w
-scatter_lanes s t strip at rows mask l w R A h k n = record {
-  inside = omega (arith, R.inside, A.len);
-  few = R.few;
-  within = omega arith;
-  narrow = n;
-}
-
-pub scatter_less : (b l w : ℕ) → l < b → w ≤ b - l → (0 < b - l → 0 < w) → b - (l + w) < b - l
-scatter_less b l w h k f = let g : 0 < b - l = omega arith in omega (arith, f g)
+pub scatter_run : (s t strip : List ℕ) (at rows l : ℕ) → Rows s strip at rows → length t ≡ length s → l < length strip
+    → Run t (take (length strip - l) (drop l strip)) (at + l) (length strip) rows
+scatter_run s t strip at rows l R e h =
+    let d : length (drop l strip) ≡ length strip - l = length-drop l strip in
+    rw rest_is (record { inside = omega (arith, R.inside); few = R.few; within = omega arith })

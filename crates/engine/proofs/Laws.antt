@@ -7,12 +7,13 @@ use mathlib.Core.Path.{◌≡◌, refl, sym, ap, ap₂, subst, ◌∙◌}
 use native.Mathlib.Nat.{mod-eq_of_lt, mod-lt, zero-add, add_comm, mul-le-mul}
 use native.Mathlib.Omega.{arith}
 use lib.Bits.{bit_xor}
-use lib.ListN.{length, get_or, set, drop, drop_of_length-le}
+use lib.ListN.{length, get_or, drop, drop_of_length-le}
 use lib.Pow.{pow_mono}
 use lib.Seq.{drop-cons}
 use Rattle.laws.proofs.Bit.{pack_lt, bit_digit}
-use Rattle.laws.proofs.Patch.{patch_more, patch_over, patch_by, patch_same}
-use Rattle.laws.proofs.Rows.{row_in}
+use borrow.Rule.Slice.PartMut.{mid_of}
+use Rattle.laws.proofs.Mid.{get_or_mid}
+use Rattle.laws.proofs.Patch.{patch_over, patch_by, patch_same}
 use Rattle.laws.proofs.Xor.{⊕_assoc, ⊕_zero, ⊕_lt}
 use Rattle.laws.specs.Bit.{bit, pack}
 use Rattle.laws.specs.Patch.{Patched}
@@ -20,7 +21,7 @@ use Rattle.laws.specs.Sum.{pick, sum}
 use Rattle.laws.specs.Xor.{◌⊕◌}
 use Rattle.algebra.specs.Word.{pred}
 use Rattle.engine.specs.Mask.{takes_of, mask_of}
-use Rattle.engine.specs.Strips.{added, gathered, taken, Strip, Rows, Columns, onto}
+use Rattle.engine.specs.Strips.{gathered, taken, Rows, Columns, onto}
 
 -- ---- the mask
 
@@ -74,58 +75,46 @@ pub mask_end : (p w q t m : ℕ) → m ≡ pack t (takes_of p w q) → t ≤ p -
 unfolding mask_of
 mask_end p w q t m e h k = let z : t ≡ p - 1 = omega arith in e ∙ ap (λ (j : ℕ). pack j (takes_of p w q)) (z ∙ pred_is p)
 
--- ---- one strip
-
-pub add_more : (s t src : List ℕ) (to from n i : ℕ) → Strip s src to from n → i < n → Patched s t to i (added s to src from 1)
-    → Patched s (set t (to + i) (bit_xor (get_or t (to + i) 0) (get_or src (from + i) 0))) to (i + 1) (added s to src from 1)
-unfolding added pick ◌⊕◌
-add_more s t src to from n i S h d =
-    patch_more s t to i (added s to src from 1) _ d (omega (arith, S.there)) (ap (λ (x : ℕ). bit_xor x (get_or src (from + i) 0)) (d.above (to + i) (omega arith)))
-
-pub add_on : (s t src : List ℕ) (to from n on : ℕ) → on % 2 ≡ 1 → Patched s t to n (added s to src from 1) → Patched s t to n (added s to src from on)
-unfolding added
-add_on s t src to from n on e d =
-    patch_by s t to n (added s to src from 1) (added s to src from on) d (λ i h. ap (λ (b : ℕ). get_or s (to + i) 0 ⊕ pick b (get_or src (from + i) 0)) (sym e))
-
-pub add_off : (s src : List ℕ) (to from n on : ℕ) → on % 2 ≢ 1 → Patched s s to n (added s to src from on)
-unfolding added pick
-add_off s src to from n on h =
-    let e : on % 2 ≡ 0 = omega arith in
-    patch_same s to n (added s to src from on) (λ i l. sym (⊕_zero (get_or s (to + i) 0)) ∙ ap (λ (b : ℕ). get_or s (to + i) 0 ⊕ pick b (get_or src (from + i) 0)) (sym e))
-
 -- ---- the rows of a mask into one strip
 
 pub gather_none : (src s : List ℕ) (at mask : ℕ) → Patched s s 0 (length s) (onto s (gathered src at (length s) mask 0))
 unfolding onto gathered sum
 gather_none src s at mask = patch_same s 0 (length s) _ (λ i l. ap (λ (j : ℕ). get_or s j 0) (zero-add i) ∙ sym (⊕_zero (get_or s i 0)))
 
-pub gather_more : (src s t u : List ℕ) (at pos mask k : ℕ) → Patched s t 0 (length s) (onto s (gathered src at (length s) mask k)) → pos ≡ at + k * length s
-    → Patched t u 0 (length s) (added t 0 src pos (mask / 2 ^ k))
-    → Patched s u 0 (length s) (onto s (gathered src at (length s) mask (k + 1)))
-unfolding onto gathered added sum bit
-gather_more src s t u at pos mask k d e a =
-    let z : k + 1 ≡ suc k = omega arith in
-    let b : ℕ = length s in
-    let f : ℕ → ℕ → ℕ = λ m. onto s (gathered src at b mask m) in
-    patch_by s u 0 b (added t 0 src pos (mask / 2 ^ k)) (f (k + 1))
-    (patch_over s t u 0 b (f k) (added t 0 src pos (mask / 2 ^ k)) d a)
-    (λ i l.
-    ap₂ (λ (y j : ℕ). y ⊕ pick (bit mask k) (get_or src (j + i) 0)) (d.inner i l) e
-    ∙ ⊕_assoc (get_or s i 0) (gathered src at b mask k i) (pick (bit mask k) (get_or src (at + k * b + i) 0))
-    ∙ ap (λ (m : ℕ). f m i) (sym z))
+-- row k added, or left out
+module _ (src s t : List ℕ) (at mask k : ℕ) (d : Patched s t 0 (length s) (onto s (gathered src at (length s) mask k))) where
+  pub gather_more : (u v : List ℕ) (x n : ℕ) → x ≡ bit mask k → x ≡ 1 → n ≡ length s
+      → Patched t u 0 (length t) (λ i. get_or t i 0 ⊕ get_or (mid_of (at + k * length s) n src) i 0) → v ≡ u → Patched s v 0 (length s) (onto s (gathered src at (length s) mask (k + 1)))
+  unfolding onto gathered sum pick
+  gather_more u v x n f e m a c =
+      let z : k + 1 ≡ suc k = omega arith in
+      let b : ℕ = length s in
+      let A : Patched t u 0 b (λ i. get_or t i 0 ⊕ get_or (mid_of (at + k * b) n src) i 0) = rw d.len at a in
+      rw c (patch_by s u 0 b _ (onto s (gathered src at b mask (k + 1))) (patch_over s t u 0 b _ _ d A)
+      (λ i l.
+      let y : ℕ = get_or src (at + k * b + i) 0 in
+      ap₂ ◌⊕◌ (ap (λ (o : ℕ). get_or t o 0) (sym (zero-add i)) ∙ d.inner i l) (get_or_mid src (at + k * b) n i (omega arith))
+      ∙ ⊕_assoc (get_or s i 0) (gathered src at b mask k i) y
+      ∙ ap (λ (c : ℕ). get_or s i 0 ⊕ (gathered src at b mask k i ⊕ pick c y)) (sym e ∙ f)
+      ∙ ap (λ (m : ℕ). onto s (gathered src at b mask m) i) (sym z)))
+
+  pub gather_skip : (v : List ℕ) (x : ℕ) → x ≡ bit mask k → x ≢ 1 → v ≡ t → Patched s v 0 (length s) (onto s (gathered src at (length s) mask (k + 1)))
+  unfolding onto gathered sum pick
+  gather_skip v x f e c =
+      let z : k + 1 ≡ suc k = omega arith in
+      let n : bit mask k ≡ 0 = omega (arith, bit_digit mask k) in
+      let b : ℕ = length s in
+      rw c (patch_by s t 0 b (onto s (gathered src at b mask k)) (onto s (gathered src at b mask (k + 1))) d
+      (λ i l.
+      ap (λ (y : ℕ). get_or s i 0 ⊕ y) (sym (⊕_zero (gathered src at b mask k i)))
+      ∙ ap (λ (c : ℕ). get_or s i 0 ⊕ (gathered src at b mask k i ⊕ pick c (get_or src (at + k * b + i) 0))) (sym n)
+      ∙ ap (λ (m : ℕ). onto s (gathered src at b mask m) i) (sym z)))
 
 pub gather_end : (src s t : List ℕ) (at mask k rows : ℕ) → Patched s t 0 (length s) (onto s (gathered src at (length s) mask k)) → k ≤ rows → rows ≤ k
     → Patched s t 0 (length s) (onto s (gathered src at (length s) mask rows))
 gather_end src s t at mask k rows d h l =
     let z : k ≡ rows = omega arith in
     subst (λ (m : ℕ). Patched s t 0 (length s) (onto s (gathered src at (length s) mask m))) z d
-
-pub gather_strip : (src s t : List ℕ) (at pos rows k : ℕ) (f : ℕ → ℕ) → Rows src s at rows → Patched s t 0 (length s) f → pos ≡ at + k * length s → k < rows
-    → Strip t src 0 pos (length s)
-gather_strip src s t at pos rows k f R d e h = record {
-  there = omega (arith, d.len);
-  here = omega (arith, R.inside, row_in k rows (length s) h);
-}
 
 -- ---- the columns of a list of words
 

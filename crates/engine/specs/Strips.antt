@@ -10,14 +10,6 @@ use Rattle.engine.specs.Mask.{mask_of}
 
 -- ---- one strip
 
--- byte i of s at `to`, with byte i of src at `from` added where `on` is odd
-unfoldable pub added : List ℕ → ℕ → List ℕ → ℕ → ℕ → ℕ → ℕ
-added s to src from on i = get_or s (to + i) 0 ⊕ pick (on % 2) (get_or src (from + i) 0)
-
--- byte i of src at `from`
-unfoldable pub copied : List ℕ → ℕ → ℕ → ℕ
-copied src from i = get_or src (from + i) 0
-
 -- byte i of s, with f i added
 unfoldable pub onto : List ℕ → (ℕ → ℕ) → ℕ → ℕ
 onto s f i = get_or s i 0 ⊕ f i
@@ -47,19 +39,17 @@ pub record Scattered (s t strip : List ℕ) (at rows mask x : ℕ) : Type 0 wher
   pub count : x ≡ weight mask rows
   pub bytes : Patched s t at (rows * length strip) (scattered s at (length strip) mask strip)
 
--- lanes l to l + w, at most 128, of a strip whose rows lie in s
-pub record Lanes (s strip : List ℕ) (at rows l w : ℕ) : Type 0 where
-  pub inside : at + rows * length strip ≤ length s
+-- a run of lanes that lies in each of rows that begin b bytes apart, in the first at `from`
+pub record Run (s run : List ℕ) (from b rows : ℕ) : Type 0 where
+  pub inside : from + rows * b + length run ≤ length s + b
   pub few : rows ≤ 60
-  pub within : l + w ≤ length strip
-  pub narrow : w ≤ 128
+  pub within : length run ≤ b
 
--- s is now t: lanes l to l + w of the strip were added to the rows at `at` that the mask names, and every other byte is as it was
-pub record Laned (s t strip : List ℕ) (at rows mask l w : ℕ) : Type 0 where
+-- s is now t: the run was added to the rows that the mask names, and every other byte is as it was
+pub record Spread (s t run : List ℕ) (from b rows mask : ℕ) : Type 0 where
   pub len : length t ≡ length s
-  pub inner : (q x : ℕ) → q < rows → l ≤ x → x < l + w
-      → get_or t (at + q * length strip + x) 0 ≡ get_or s (at + q * length strip + x) 0 ⊕ pick (bit mask q) (get_or strip x 0)
-  pub other : (o : ℕ) → ((q x : ℕ) → q < rows → l ≤ x → x < l + w → o ≢ at + q * length strip + x) → get_or t o 0 ≡ get_or s o 0
+  pub inner : (q x : ℕ) → q < rows → x < length run → get_or t (from + q * b + x) 0 ≡ get_or s (from + q * b + x) 0 ⊕ pick (bit mask q) (get_or run x 0)
+  pub other : (o : ℕ) → ((q x : ℕ) → q < rows → x < length run → o ≢ from + q * b + x) → get_or t o 0 ≡ get_or s o 0
 
 -- ---- the rows of many columns
 

@@ -1,14 +1,14 @@
 // The two moves on strips that every call is made of, and the rows that a word takes of a column.
 #![tactic(auto)]
 
-ghost use Rattle.std.specs.Prelude.{◌≡◌, ◌+◌, ◌%◌, ◌^◌, ◌<◌, ◌≤◌, length};
+ghost use Rattle.std.specs.Prelude.{◌≡◌, ◌+◌, ◌%◌, ◌^◌, ◌<◌, ◌≤◌, length, get_or, take};
 ghost use Rattle.std.specs.Int.Count.{count_trailing_zeros};
 ghost use Rattle.laws.specs.Bit.{bit, weight};
 ghost use Rattle.laws.specs.Part.{put, tab};
 ghost use Rattle.laws.specs.Patch.{Patched};
 ghost use Rattle.laws.specs.Xor.{◌⊕◌};
 ghost use Rattle.engine.specs.Mask.{takes_of, mask_of};
-ghost use Rattle.engine.specs.Strips.{added, copied, onto, gathered, taken, Strip, Rows, Lanes, Laned, Scattered, Columns};
+ghost use Rattle.engine.specs.Strips.{onto, gathered, taken, Rows, Run, Spread, Scattered, Columns};
 
 // How many lanes are taken at once, where there are so many.
 const WIDE: usize = 128;
@@ -38,35 +38,20 @@ fn mask(w: u64, q: usize, p: usize) -> u64
     requires { (q < p) × (p ≤ 61) }
     ensures { result ≡ mask_of p w q }
 {
-    let rows = p - 1;
     let mut m = 0;
-    let mut t: usize = 0;
-    while t < rows {
+    for t in 0..p - 1 {
         m += takes(w, q, t, p) << t;
-        t += 1;
     }
     m
 }
 
-// XORs the n bytes of src at `from` into the n bytes of s at `to`.
-fn add(s: &mut [u8], to: usize, src: &[u8], from: usize, n: usize)
-    requires { Strip s.old src.now to from n }
-    ensures { Patched s.old s.new to n (added s.old to src.now from 1) }
+// XORs the bytes of src into those of s.
+fn add(s: &mut [u8], src: &[u8])
+    requires { length s.old ≡ length src.now }
+    ensures { Patched s.old s.new 0 (length s.old) (λ i. get_or s.old i 0 ⊕ get_or src.now i 0) }
 {
-    let mut i: usize = 0;
-    while i < n {
-        s[to + i] = s[to + i] ^ src[from + i];
-        i += 1;
-    }
-}
-
-// The same where the lowest bit of `on` is set.
-fn add_where(s: &mut [u8], to: usize, src: &[u8], from: usize, n: usize, on: u64)
-    requires { Strip s.old src.now to from n }
-    ensures { Patched s.old s.new to n (added s.old to src.now from on) }
-{
-    if on % 2 == 1 {
-        add(s, to, src, from, n)
+    for (i, x) in s.iter_mut().enumerate() {
+        *x ^= src[i];
     }
 }
 
@@ -76,24 +61,11 @@ fn gather(src: &[u8], at: usize, rows: usize, mask: u64, out: &mut [u8])
     ensures { Patched out.old out.new 0 (length out.old) (onto out.old (gathered src.now at (length out.old) mask rows)) }
 {
     let b = out.len();
-    let mut pos = at;
-    let mut t: usize = 0;
-    while t < rows {
-        add_where(out, 0, src, pos, b, mask >> t);
-        pos += b;
-        t += 1;
-    }
-}
-
-// Puts the n bytes of src at `from` in the place of those of s at `to`.
-fn copy(s: &mut [u8], to: usize, src: &[u8], from: usize, n: usize)
-    requires { Strip s.old src.now to from n }
-    ensures { Patched s.old s.new to n (copied src.now from) }
-{
-    let mut i: usize = 0;
-    while i < n {
-        s[to + i] = src[from + i];
-        i += 1;
+    for t in 0..rows {
+        if coefficient(mask, t) == 1 {
+            let from = at + t * b;
+            add(out, &src[from..from + b]);
+        }
     }
 }
 
@@ -120,51 +92,52 @@ fn later(mask: u64) -> u64
     mask & (mask - 1)
 }
 
-// XORs lanes l to l + w of the strip into the rows that the mask names, of the rows of s at `at`.
-fn add_lanes(s: &mut [u8], at: usize, rows: usize, mask: u64, strip: &[u8], l: usize, w: usize)
-    requires { Lanes s.old strip.now at rows l w }
-    ensures { Laned s.old s.new strip.now at rows mask l w }
+// XORs a run of lanes into the rows that the mask names; the rows begin b bytes apart, the run in the first of them at `from`.
+fn add_run(s: &mut [u8], from: usize, b: usize, rows: usize, mask: u64, run: &[u8])
+    requires { Run s.old run.now from b rows }
+    ensures { Spread s.old s.new run.now from b rows mask }
 {
-    let b = strip.len();
-    let from = at + l;
-    let mut run = [0u8; WIDE];
-    copy(&mut run, 0, strip, l, w);
     let mut left = cut(mask, rows);
     while left > 0 {
-        let q = first(left);
-        add(s, from + q * b, &run, 0, w);
+        let at = from + first(left) * b;
+        add(&mut s[at..at + run.len()], run);
         left = later(left);
     }
 }
 
-// The same; a width that stands in the code lets the lanes stay in registers.
-fn add_block(s: &mut [u8], at: usize, rows: usize, mask: u64, strip: &[u8], l: usize, w: usize)
-    requires { Lanes s.old strip.now at rows l w }
-    ensures { Laned s.old s.new strip.now at rows mask l w }
+// The same of a block: a copy of a width that is known lets the lanes stay in registers.
+fn add_block<const W: usize>(
+    s: &mut [u8],
+    from: usize,
+    b: usize,
+    rows: usize,
+    mask: u64,
+    block: &[u8; W],
+)
+    requires { Run s.old block.now from b rows }
+    ensures { Spread s.old s.new block.now from b rows mask }
 {
-    if w == WIDE {
-        add_lanes(s, at, rows, mask, strip, l, WIDE)
-    } else if w == MIDDLE {
-        add_lanes(s, at, rows, mask, strip, l, MIDDLE)
-    } else if w == NARROW {
-        add_lanes(s, at, rows, mask, strip, l, NARROW)
-    } else {
-        add_lanes(s, at, rows, mask, strip, l, w)
-    }
+    let run = *block;
+    add_run(s, from, b, rows, mask, &run);
 }
 
-// How many of n lanes to take at once: the widest block that there are lanes for, or all.
-fn width(n: usize) -> usize
-    ensures { (result ≤ n) × (result ≤ 128) × (0 < n → 0 < result) }
+// The same of the first lanes: of the widest block that there are lanes for, or of all. Gives how many these are.
+fn add_some(s: &mut [u8], from: usize, b: usize, rows: usize, mask: u64, lanes: &[u8]) -> usize
+    requires { Run s.old lanes.now from b rows }
+    ensures { (result ≤ length lanes.now) × (0 < length lanes.now → 0 < result) × Spread s.old s.new (take result lanes.now) from b rows mask }
 {
-    if n >= WIDE {
+    if let Some(block) = lanes.first_chunk::<WIDE>() {
+        add_block(s, from, b, rows, mask, block);
         WIDE
-    } else if n >= MIDDLE {
+    } else if let Some(block) = lanes.first_chunk::<MIDDLE>() {
+        add_block(s, from, b, rows, mask, block);
         MIDDLE
-    } else if n >= NARROW {
+    } else if let Some(block) = lanes.first_chunk::<NARROW>() {
+        add_block(s, from, b, rows, mask, block);
         NARROW
     } else {
-        n
+        add_run(s, from, b, rows, mask, lanes);
+        lanes.len()
     }
 }
 
@@ -184,9 +157,7 @@ pub fn scatter(s: &mut [u8], at: usize, rows: usize, mask: u64, strip: &[u8]) ->
     let b = strip.len();
     let mut l: usize = 0;
     while l < b {
-        let w = width(b - l);
-        add_block(s, at, rows, mask, strip, l, w);
-        l += w;
+        l += add_some(s, at + l, b, rows, mask, &strip[l..]);
     }
     named(mask, rows)
 }
@@ -196,11 +167,8 @@ pub fn take(src: &[u8], ats: &[usize], words: &[u64], q: usize, p: usize, out: &
     requires { Columns p q src.now ats.now words.now out.old }
     ensures { Patched out.old out.new 0 (length out.old) (onto out.old (taken p src.now (length out.old) q ats.now words.now)) }
 {
-    let mut m: usize = 0;
-    while m < words.len() {
-        let rows = mask(words[m], q, p);
-        gather(src, ats[m], p - 1, rows, out);
-        m += 1;
+    for (m, word) in words.iter().enumerate() {
+        gather(src, ats[m], p - 1, mask(*word, q, p), out);
     }
 }
 
@@ -209,25 +177,15 @@ pub fn clear(s: &mut [u8], from: usize, n: usize)
     requires { from + n ≤ length s.old }
     ensures { s.new ≡ put s.old from (tab n (λ o. 0)) }
 {
-    let mut i: usize = 0;
-    while i < n {
-        s[from + i] = 0;
-        i += 1;
+    for x in s[from..from + n].iter_mut() {
+        *x = 0;
     }
 }
 
-// Puts the bytes of src in their place; an array lets each wide block stay in registers.
+// Puts the bytes of src in their place.
 pub fn copy_in(s: &mut [u8], at: usize, src: &[u8])
     requires { at + length src.now ≤ length s.old }
     ensures { s.new ≡ put s.old at src.now }
 {
-    let n = src.len();
-    let mut i: usize = 0;
-    while n - i >= WIDE {
-        let mut block = [0u8; WIDE];
-        copy(&mut block, 0, src, i, WIDE);
-        copy(s, at + i, &block, 0, WIDE);
-        i += WIDE;
-    }
-    copy(s, at + i, src, i, n - i)
+    s[at..at + src.len()].copy_from_slice(src);
 }

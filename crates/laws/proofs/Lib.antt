@@ -4,6 +4,7 @@ pub mod Bit
 pub mod Sum
 pub mod Place
 pub mod Tab
+pub mod Mid
 pub mod Part
 pub mod Patch
 pub mod Rows

@@ -1,15 +1,14 @@
 -- `engine::add` meets its contract.
 -- Assumes nothing.
-use native.Mathlib.Omega.{arith}
 use Rattle.laws.proofs.Patch.{patch_none, patch_end}
-use Rattle.engine.proofs.Laws.{add_more}
+use Rattle.engine.proofs.Bytes.{add_more}
 use Rattle.engine.proofs.add.Goals as goal
 
 pub loop-i-init : goal.loop-i-init
-loop-i-init c = (omega arith, patch_none _ _ _)
+loop-i-init c = search patch_none
 
 pub loop-i-preserved : goal.loop-i-preserved
-loop-i-preserved c = (omega arith, search add_more)
+loop-i-preserved c = search add_more
 
 pub returns : goal.returns
-returns c = search patch_end
+returns c = search (patch_end, c.loop-i.auto.i-end)

@@ -1,12 +1,9 @@
 -- `engine::add` meets its contract.
 -- Assumes nothing.
-use Prim.Native.Nat.{◌-◌, ◌≤◌}
+use lib.ListN.{get_or}
 use Rattle.laws.specs.Patch.{Patched}
-use Rattle.engine.specs.Strips.{added}
+use Rattle.laws.specs.Xor.{◌⊕◌}
 use Rattle.engine.proofs.add.Given as goal
 
 abbrev pub invariant-loop-i : goal.invariant-loop-i
-invariant-loop-i l = (l.i ≤ l.n) × Patched l.initial.s l.s l.to l.i (added l.initial.s l.to l.src l.from 1)
-
-abbrev pub decreases-loop-i : goal.decreases-loop-i
-decreases-loop-i l = l.n - l.i
+invariant-loop-i l = Patched l.initial.s l.s 0 l.i (λ i. get_or l.initial.s i 0 ⊕ get_or l.src i 0)
