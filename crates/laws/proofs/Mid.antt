@@ -23,14 +23,18 @@ module _ (s : List ℕ) (at k : ℕ) where
   unfolding put
   mid_put v e = ap (λ (l : List ℕ). take at s ++ (v ++ l)) (drop-drop k at s ∙ ap (λ (n : ℕ). drop (at + n) s) (sym e))
 
-  -- the part was changed, so the list is
-  pub mid_patched : (v : List ℕ) (f g : ℕ → ℕ) → at + k ≤ length s → Patched (mid_of at k s) v 0 k g → ((i : ℕ) → i < k → g i ≡ f i) → Patched s (put_mid at k s v) at k f
-  mid_patched v f g h d e =
-      let n : length v ≡ k = d.len ∙ length_mid h in
+  -- the list, by the bytes that came back
+  pub mid_filled : (v : List ℕ) (f : ℕ → ℕ) → at + k ≤ length s → length v ≡ k → ((i : ℕ) → i < k → get_or v i 0 ≡ f i) → Patched s (put_mid at k s v) at k f
+  mid_filled v f h n g =
       let l : at + length v ≤ length s = omega arith in
       rw (mid_put v n) (record {
         len = length_put s at v l;
         below = get_or_put_before s at v l;
-        inner = λ i m. get_or_put_in s at v l i (omega arith) ∙ ap (λ (o : ℕ). get_or v o 0) (sym (zero-add i)) ∙ d.inner i m ∙ e i m;
+        inner = λ i m. get_or_put_in s at v l i (omega arith) ∙ g i m;
         above = λ o m. get_or_put_after s at v l o (omega arith);
       })
+
+  -- the part was changed, so the list is
+  pub mid_patched : (v : List ℕ) (f g : ℕ → ℕ) → at + k ≤ length s → Patched (mid_of at k s) v 0 k g → ((i : ℕ) → i < k → g i ≡ f i) → Patched s (put_mid at k s v) at k f
+  mid_patched v f g h d e =
+      mid_filled v f h (d.len ∙ length_mid h) (λ i m. ap (λ (o : ℕ). get_or v o 0) (sym (zero-add i)) ∙ d.inner i m ∙ e i m)

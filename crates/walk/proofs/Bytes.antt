@@ -1,16 +1,21 @@
 -- What the functions on one row owe, over plain lists.
 -- Assumes nothing.
-use Prim.Native.Nat.{ℕ, ◌+◌, ◌-◌, ◌%◌, ◌≤◌, ◌<◌}
+use Prim.Native.Nat.compare
+use Prim.Native.Nat.{ℕ, zero, suc, compare, ◌+◌, ◌-◌, ◌%◌, ◌≤◌, ◌<◌}
+use mathlib.Core.Bool.{Bool, not}
+use mathlib.Core.Logic.{◌≢◌}
+use lib.Dec.{compare_is_eq}
 use mathlib.Core.List.{List}
 use mathlib.Core.Path.{◌≡◌, sym, ap, ap₂, ◌∙◌, refl}
-use native.Mathlib.Nat.{mod-eq_of_lt, add-mod_right, le_refl}
+use native.Mathlib.Nat.{mod-eq_of_lt, add-mod_right}
 use native.Mathlib.Omega.{arith}
 use lib.Bits.{bit_xor}
 use lib.ListN.{get_or, length, set}
-use Rattle.laws.proofs.Patch.{patch_none, patch_more, patch_front, patch_end}
+use lib.Seq.{get_or-set_same}
+use Rattle.laws.proofs.Patch.{patch_none, patch_front, patch_end}
 use Rattle.laws.specs.Patch.{Patched}
 use Rattle.laws.specs.Xor.{◌⊕◌}
-use Rattle.walk.specs.Lanes.{Stepped, SteppedFirst, StepAsked, ran}
+use Rattle.walk.specs.Lanes.{kept, Stepped}
 
 -- ---- `next`
 
@@ -25,45 +30,36 @@ next_below f d p h k l =
 
 -- ---- `step`
 
-pub step_none : (s run acc : List ℕ) (at to : ℕ) → Stepped s run run acc acc at to 0
-step_none s run acc at to = record { running = patch_none run 0 _; added = patch_none acc to _ }
+-- ADD as it is compiled, a number, and what stays of a byte
+pub kept_on : (n y z : ℕ) → n ≢ 0 → z ≡ y → z ≡ kept (not (compare_is_eq (compare n 0))) y
+kept_on zero y z h e = absurd (h refl)
+kept_on (suc n) y z h e = e ∙ sym (ap (λ o. kept (not (compare_is_eq o)) y) (compare.suc-zero n))
 
-pub step_more : (s run run' acc acc' : List ℕ) (at to w x : ℕ) → x < w → StepAsked s run acc at to w → Stepped s run run' acc acc' at to x
-    → Stepped s run (set run' x (bit_xor (get_or run' x 0) (get_or s (at + x) 0))) acc
-    (set acc' (to + x) (bit_xor (get_or acc' (to + x) 0) (bit_xor (get_or run' x 0) (get_or s (at + x) 0)))) at to (x + 1)
+pub kept_off : (n y z : ℕ) → n ≡ 0 → z ≡ 0 → z ≡ kept (not (compare_is_eq (compare n 0))) y
+kept_off n y z h e = rw h e
+
+-- so far as byte x
+pub record Stepping (add : Bool) (src run run' out out' : List ℕ) (x : ℕ) : Type 0 where
+  pub running : Patched run run' 0 x (λ o. get_or run o 0 ⊕ get_or src o 0)
+  pub given : Patched out out' 0 x (λ o. kept add (get_or out o 0) ⊕ (get_or run o 0 ⊕ get_or src o 0))
+
+pub step_none : (add : Bool) (src run out : List ℕ) → Stepping add src run run out out 0
+step_none add src run out = record { running = patch_none run 0 _; given = patch_none out 0 _ }
+
+pub step_more : (add : Bool) (src run run' out out' : List ℕ) (x y : ℕ) → x < length out → length out ≤ 128 → length run ≡ 128 → Stepping add src run run' out out' x
+    → y ≡ kept add (get_or out' x 0)
+    → Stepping add src run (set run' x (bit_xor (get_or run' x 0) (get_or src x 0))) out
+    (set out' x (bit_xor y (get_or (set run' x (bit_xor (get_or run' x 0) (get_or src x 0))) x 0))) (x + 1)
 unfolding ◌⊕◌
-step_more s run run' acc acc' at to w x h A d =
-    let r : get_or run' x 0 ≡ get_or run x 0 = d.running.above x (omega arith) in
-    let v : bit_xor (get_or run' x 0) (get_or s (at + x) 0) ≡ ran run s at x = ap (λ (y : ℕ). bit_xor y (get_or s (at + x) 0)) r in
+step_more add src run run' out out' x y h k l d e =
+    let v : ℕ = bit_xor (get_or run' x 0) (get_or src x 0) in
+    let r : v ≡ get_or run x 0 ⊕ get_or src x 0 = ap (λ (z : ℕ). bit_xor z (get_or src x 0)) (d.running.above x (omega arith)) in
+    let g : get_or (set run' x v) x 0 ≡ v = get_or-set_same run' x v 0 (omega (arith, d.running.len)) in
     record {
-      running = patch_front run run' x (ran run s at) _ d.running (omega (arith, A.lanes, A.whole)) v;
-      added = patch_more acc acc' to x (λ x. get_or acc (to + x) 0 ⊕ ran run s at x) _ d.added (omega (arith, A.room)) (ap₂ bit_xor (d.added.above (to + x) (le_refl (to + x))) v);
+      running = patch_front run run' x (λ o. get_or run o 0 ⊕ get_or src o 0) _ d.running (omega arith) r;
+      given = patch_front out out' x (λ o. kept add (get_or out o 0) ⊕ (get_or run o 0 ⊕ get_or src o 0)) _ d.given h
+          (ap₂ bit_xor (e ∙ ap (kept add) (d.given.above x (omega arith))) (g ∙ r));
     }
 
-pub step_end : (s run run' acc acc' : List ℕ) (at to w x : ℕ) → Stepped s run run' acc acc' at to x → x ≤ w → w ≤ x → Stepped s run run' acc acc' at to w
-step_end s run run' acc acc' at to w x d h g = record { running = patch_end run run' 0 x w _ d.running h g; added = patch_end acc acc' to x w _ d.added h g }
-
--- ---- `step_first`
-
-pub first_none : (s run acc : List ℕ) (at to : ℕ) → SteppedFirst s run run acc acc at to 0
-first_none s run acc at to = record { running = patch_none run 0 _; placed = patch_none acc to _ }
-
-pub first_more : (s run run' acc acc' : List ℕ) (at to w x : ℕ) → x < w → StepAsked s run acc at to w → SteppedFirst s run run' acc acc' at to x
-    → SteppedFirst s run (set run' x (bit_xor (get_or run' x 0) (get_or s (at + x) 0))) acc
-    (set acc' (to + x) (bit_xor (get_or run' x 0) (get_or s (at + x) 0))) at to (x + 1)
-unfolding ◌⊕◌
-first_more s run run' acc acc' at to w x h A d =
-    let r : get_or run' x 0 ≡ get_or run x 0 = d.running.above x (omega arith) in
-    let v : bit_xor (get_or run' x 0) (get_or s (at + x) 0) ≡ ran run s at x = ap (λ (y : ℕ). bit_xor y (get_or s (at + x) 0)) r in
-    record {
-      running = patch_front run run' x (ran run s at) _ d.running (omega (arith, A.lanes, A.whole)) v;
-      placed = patch_more acc acc' to x (ran run s at) _ d.placed (omega (arith, A.room)) v;
-    }
-
-pub first_end : (s run run' acc acc' : List ℕ) (at to w x : ℕ) → SteppedFirst s run run' acc acc' at to x → x ≤ w → w ≤ x → SteppedFirst s run run' acc acc' at to w
-first_end s run run' acc acc' at to w x d h g = record { running = patch_end run run' 0 x w _ d.running h g; placed = patch_end acc acc' to x w _ d.placed h g }
-
--- ---- `clear`
-
-pub clear_more : (acc t : List ℕ) (to w x : ℕ) → to + w ≤ length acc → x < w → Patched acc t to x (λ o. 0) → Patched acc (set t (to + x) 0) to (x + 1) (λ o. 0)
-clear_more acc t to w x h l d = patch_more acc t to x (λ o. 0) 0 d (omega arith) refl
+pub step_end : (add : Bool) (src run run' out out' : List ℕ) (x : ℕ) → Stepping add src run run' out out' x → x ≤ length out → length out ≤ x → Stepped add src run run' out out'
+step_end add src run run' out out' x d h g = record { running = patch_end run run' 0 x (length out) _ d.running h g; given = patch_end out out' 0 x (length out) _ d.given h g }

@@ -1,6 +1,6 @@
 -- What the functions of a walk ask for and what they leave. They work on w lanes, that is w bytes of each strip, and hold p rows of w bytes in `acc`.
 -- Assumes nothing.
-use Rattle.std.specs.Prelude.{ℕ, ◌+◌, ◌-◌, ◌*◌, ◌≤◌, ◌<◌, List, ◌≡◌, get_or, length}
+use Rattle.std.specs.Prelude.{ℕ, ◌+◌, ◌-◌, ◌*◌, ◌≤◌, ◌<◌, Bool, true, false, List, ◌≡◌, get_or, length}
 use Rattle.laws.specs.Part.{row_byte}
 use Rattle.laws.specs.Patch.{Patched}
 use Rattle.laws.specs.Sum.{sum}
@@ -23,25 +23,15 @@ sum_found s from n b d k x q = sum k (λ i. found s (from + i * (n * b)) n b (d 
 
 -- ---- one row
 
--- w bytes of s at a place, the running bytes, and w bytes of acc at a place
-pub record StepAsked (s run acc : List ℕ) (at to w : ℕ) : Type 0 where
-  pub inside : at + w ≤ length s
-  pub room : to + w ≤ length acc
-  pub lanes : w ≤ 128
-  pub whole : length run ≡ 128
+-- what stays of a byte that is added to, or where `add` is false put
+abbrev pub kept : Bool → ℕ → ℕ
+kept true y = y
+kept false y = 0
 
-abbrev pub ran : List ℕ → List ℕ → ℕ → ℕ → ℕ
-ran run s at x = get_or run x 0 ⊕ get_or s (at + x) 0
-
--- the bytes of s were added to the running bytes, and these were added to acc
-pub record Stepped (s run run' acc acc' : List ℕ) (at to w : ℕ) : Type 0 where
-  pub running : Patched run run' 0 w (ran run s at)
-  pub added : Patched acc acc' to w (λ x. get_or acc (to + x) 0 ⊕ ran run s at x)
-
--- or were put there
-pub record SteppedFirst (s run run' acc acc' : List ℕ) (at to w : ℕ) : Type 0 where
-  pub running : Patched run run' 0 w (ran run s at)
-  pub placed : Patched acc acc' to w (ran run s at)
+-- byte x of src was added to the running byte, and this to byte x of out, or put there
+pub record Stepped (add : Bool) (src run run' out out' : List ℕ) : Type 0 where
+  pub running : Patched run run' 0 (length out) (λ x. get_or run x 0 ⊕ get_or src x 0)
+  pub given : Patched out out' 0 (length out) (λ x. kept add (get_or out x 0) ⊕ (get_or run x 0 ⊕ get_or src x 0))
 
 -- ---- a column
 
@@ -54,14 +44,13 @@ pub record WalkAsked (s acc : List ℕ) (base p b d w : ℕ) : Type 0 where
   pub inside : base + (p - 1) * b + w ≤ length s + b
   pub room : p * w ≤ length acc
 
--- the row of the place where the walk starts is 0
-pub record Cleared (s acc : List ℕ) (base p b d w : ℕ) : Type 0 where
-  pub asked : WalkAsked s acc base p b d w
-  pub blank : (x : ℕ) → x < w → row_byte acc w (p - 1 - d) x ≡ 0
+-- the row of the place where the walk starts stays, as it is added to or 0
+pub record Begun (add : Bool) (acc : List ℕ) (p d w : ℕ) : Type 0 where
+  pub stays : (x : ℕ) → x < w → row_byte acc w (p - 1 - d) x ≡ kept add (row_byte acc w (p - 1 - d) x)
 
--- what the walk found was added to each row
-pub record Walked (s acc acc' : List ℕ) (base p b d w : ℕ) : Type 0 where
-  pub bytes : (q x : ℕ) → q < p → x < w → row_byte acc' w q x ≡ row_byte acc w q x ⊕ found s base (p - 1) b d x q
+-- what the walk found was added to each row, or put there
+pub record Walked (add : Bool) (s acc acc' : List ℕ) (base p b d w : ℕ) : Type 0 where
+  pub bytes : (q x : ℕ) → q < p → x < w → row_byte acc' w q x ≡ kept add (row_byte acc w q x) ⊕ found s base (p - 1) b d x q
 
 -- the rows are what the walks over k columns found
 pub record Sums (s acc : List ℕ) (from p b d w k : ℕ) : Type 0 where

@@ -2,8 +2,7 @@
 #![tactic(auto)]
 
 ghost use Rattle.std.specs.Prelude.{◌≡◌, ◌+◌, ◌-◌, ◌*◌, ◌%◌, ◌<◌, ◌≤◌, length};
-ghost use Rattle.laws.specs.Patch.{Patched};
-ghost use Rattle.walk.specs.Lanes.{StepAsked, Stepped, SteppedFirst, WalkAsked, Cleared, Walked, Sums, ColumnsAsked};
+ghost use Rattle.walk.specs.Lanes.{Stepped, WalkAsked, Begun, Walked, Sums, ColumnsAsked};
 
 // The most lanes of a walk, whose running bytes stay in registers.
 pub const LANES: usize = 128;
@@ -19,75 +18,40 @@ pub fn next(f: usize, d: usize, p: usize) -> usize
     f - d
 }
 
-// Adds w bytes of s to the running bytes, and these to w bytes of acc.
-fn step(s: &[u8], at: usize, run: &mut [u8; LANES], acc: &mut [u8], to: usize, w: usize)
-    requires { StepAsked s.now run.old acc.old at to w }
-    ensures { Stepped s.now run.old run.new acc.old acc.new at to w }
+// Adds the bytes of src to the running bytes, and these to the bytes of out; where ADD is false they are put there.
+fn step<const ADD: bool>(src: &[u8], run: &mut [u8; LANES], out: &mut [u8])
+    requires { (length src.now ≡ length out.old) × (length out.old ≤ 128) × (length run.old ≡ 128) }
+    ensures { Stepped ADD src.now run.old run.new out.old out.new }
 {
-    let mut x: usize = 0;
-    while x < w {
-        let v = run[x] ^ s[at + x];
-        run[x] = v;
-        acc[to + x] = acc[to + x] ^ v;
-        x += 1;
+    for (x, o) in out.iter_mut().enumerate() {
+        let kept = if ADD { *o } else { 0 };
+        run[x] ^= src[x];
+        *o = kept ^ run[x];
     }
 }
 
-// The same, with the running bytes put in acc and not added.
-fn step_first(s: &[u8], at: usize, run: &mut [u8; LANES], acc: &mut [u8], to: usize, w: usize)
-    requires { StepAsked s.now run.old acc.old at to w }
-    ensures { SteppedFirst s.now run.old run.new acc.old acc.new at to w }
-{
-    let mut x: usize = 0;
-    while x < w {
-        let v = run[x] ^ s[at + x];
-        run[x] = v;
-        acc[to + x] = v;
-        x += 1;
-    }
-}
-
-// Sets w bytes of acc to 0.
-fn clear(acc: &mut [u8], to: usize, w: usize)
-    requires { to + w ≤ length acc.old }
-    ensures { Patched acc.old acc.new to w (λ x. 0) }
-{
-    let mut x: usize = 0;
-    while x < w {
-        acc[to + x] = 0;
-        x += 1;
-    }
-}
-
-// Adds w lanes of a column over 1 + x^d to the rows of acc, but for a constant.
-fn walk(s: &[u8], base: usize, p: usize, b: usize, d: usize, w: usize, acc: &mut [u8])
-    requires { WalkAsked s.now acc.old base p b d w }
-    ensures { Walked s.now acc.old acc.new base p b d w }
+// Adds w lanes of a column over 1 + x^d to the rows of acc, but for a constant. Where ADD is false they are put there, but in
+// the row where the walk starts: that is 0 already.
+fn walk<const ADD: bool>(
+    s: &[u8],
+    base: usize,
+    p: usize,
+    b: usize,
+    d: usize,
+    w: usize,
+    acc: &mut [u8],
+)
+    requires asked { WalkAsked s.now acc.old base p b d w }
+    requires begun { Begun ADD acc.old p d w }
+    ensures { Walked ADD s.now acc.old acc.new base p b d w }
 {
     let mut run = [0u8; LANES];
     let mut f = p - 1 - d;
-    let mut m: usize = 1;
-    while m < p {
+    for _ in 1..p {
         let at = base + f * b;
         f = next(f, d, p);
-        step(s, at, &mut run, acc, f * w, w);
-        m += 1;
-    }
-}
-
-// The same, put in acc and not added; the row where the walk starts is 0 already.
-fn walk_cleared(s: &[u8], base: usize, p: usize, b: usize, d: usize, w: usize, acc: &mut [u8])
-    requires { Cleared s.now acc.old base p b d w }
-    ensures { Sums s.now acc.new base p b d w 1 }
-{
-    let mut run = [0u8; LANES];
-    let mut f = p - 1 - d;
-    let mut m: usize = 1;
-    while m < p {
-        let at = base + f * b;
-        f = next(f, d, p);
-        step_first(s, at, &mut run, acc, f * w, w);
-        m += 1;
+        let to = f * w;
+        step::<ADD>(&s[at..at + w], &mut run, &mut acc[to..to + w]);
     }
 }
 
@@ -96,8 +60,9 @@ pub fn walk_first(s: &[u8], base: usize, p: usize, b: usize, d: usize, w: usize,
     requires { WalkAsked s.now acc.old base p b d w }
     ensures { Sums s.now acc.new base p b d w 1 }
 {
-    clear(acc, (p - 1 - d) * w, w);
-    walk_cleared(s, base, p, b, d, w, acc);
+    let start = (p - 1 - d) * w;
+    acc[start..start + w].fill(0);
+    walk::<false>(s, base, p, b, d, w, acc);
 }
 
 // Adds the columns after the first, each over its own 1 + x^(d+i).
@@ -115,9 +80,7 @@ pub fn columns(
     ensures { Sums s.now acc.new from p b d w k }
 {
     let c = (p - 1) * b;
-    let mut i: usize = 1;
-    while i < k {
-        walk(s, from + i * c, p, b, d + i, w, acc);
-        i += 1;
+    for i in 1..k {
+        walk::<true>(s, from + i * c, p, b, d + i, w, acc);
     }
 }

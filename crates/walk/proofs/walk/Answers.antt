@@ -1,25 +1,21 @@
 -- `walk::walk` meets its contract.
 -- Assumes nothing.
-use Rattle.walk.proofs.Places.{at_start, added_none, offset_fits, read_fits, write_fits, step_asked, at_next, added_more, added_end}
+use native.Mathlib.Omega.{arith}
+use Rattle.walk.proofs.Places.{at_start, added_none, row_inside, step_asked, row_stepped, at_next, added_more, added_end}
 use Rattle.walk.proofs.walk.Goals as goal
 
-pub loop-m-init : goal.loop-m-init
-loop-m-init c = (search at_start, search added_none)
+pub loop-init : goal.loop-init
+loop-init g c = (at_start _ _ _ _ _ _ _ c.requires.asked, added_none _ _ _ _ _ _ _ c.requires.asked _ c.requires.begun)
 
-pub overflow_mul-at : goal.overflow_mul-at
-overflow_mul-at c = search offset_fits
+pub slice_bounds-step-end : goal.slice_bounds-step-end
+slice_bounds-step-end g c = row_inside _ _ _ _ _ _ _ c.requires.asked _ _ _ c.loop.invariant.0 c.loop-test.true
 
-pub overflow_add-at : goal.overflow_add-at
-overflow_add-at c = search read_fits
-
-pub overflow_mul-f : goal.overflow_mul-f
-overflow_mul-f c = search write_fits
-
-pub step-requires : goal.step-requires
-step-requires c = search step_asked
-
-pub loop-m-preserved : goal.loop-m-preserved
-loop-m-preserved c = (search at_next, search added_more)
+pub loop-preserved : goal.loop-preserved
+loop-preserved g c =
+    let A = c.requires.asked in
+    let W = c.loop.invariant.0 in
+    let S = row_stepped _ _ _ _ _ _ _ _ (step_asked _ _ _ _ _ _ _ A _ _ _ W _ c.loop-test.true c.next-f.ensures _ c.loop.auto.acc) (omega arith) (omega arith) _ _ _ c.step.ensures in
+    (at_next _ _ _ _ _ _ _ A _ _ _ W _ c.loop-test.true c.next-f.ensures _ S.running, added_more _ _ _ _ _ _ _ A _ _ _ _ _ _ W c.loop-test.true c.next-f.ensures _ _ c.loop.invariant.1 S)
 
 pub returns : goal.returns
-returns c = search added_end
+returns g c = search added_end

@@ -1,11 +1,9 @@
 -- `walk::walk` meets its contract.
 -- Assumes nothing.
-use Prim.Native.Nat.{◌-◌}
+use denote.Param.{number}
+use Rattle.walk.specs.contracts.walk.{ADD-type}
 use Rattle.walk.proofs.Places.{At, RowsAdded}
 use Rattle.walk.proofs.walk.Given as goal
 
-abbrev pub invariant-loop-m : goal.invariant-loop-m
-invariant-loop-m l = At l.s l.run l.base l.p l.b l.d l.w l.f l.m × RowsAdded l.s l.initial.acc l.acc l.base l.p l.b l.d l.w l.m
-
-abbrev pub decreases-loop-m : goal.decreases-loop-m
-decreases-loop-m l = l.p - l.m
+abbrev pub invariant-loop : goal.invariant-loop
+invariant-loop g l = At l.s l.run l.base l.p l.b l.d l.w l.f l.counter × RowsAdded (ADD-type (number g.row.ADD)) l.s l.initial.acc l.acc l.base l.p l.b l.d l.w l.counter
