@@ -21,7 +21,7 @@ use Rattle.pattern.specs.Pattern.{is_lost}
 use Rattle.rebuild.proofs.Independent.{agrees_image}
 use Rattle.rebuild.specs.Agrees.{AgreesOutside}
 use Rattle.rebuild.specs.Lost.{whole_data}
-use Rattle.write.proofs.Accepted.{present_rest, present_revision, present_front, present_strip_here, present_strip_lost, present_strip_elsewhere, present_parity}
+use Rattle.write.proofs.After.{present_rest, present_revision, present_front, present_strip_here, present_strip_lost, present_strip_elsewhere, present_parity}
 use Rattle.pattern.proofs.Single.{none_lost}
 use Rattle.present.proofs.Empty.{word_none}
 use Rattle.write.proofs.Empty.{written_none}

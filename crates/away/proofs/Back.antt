@@ -22,7 +22,7 @@ use Rattle.stripe.specs.Reading.{Image}
 use Rattle.stripe.specs.declared.Params.{Params}
 use Rattle.pattern.specs.Pattern.{is_lost}
 use Rattle.rebuild.specs.Lost.{whole_data}
-use Rattle.write.proofs.Accepted.{put_patched}
+use Rattle.write.proofs.After.{put_patched}
 use Rattle.present.specs.Present.{present_word, present_moved, present_placed}
 use Rattle.write.specs.Written.{difference}
 use Rattle.away.specs.Away.{away_difference}

@@ -7,6 +7,7 @@ use mathlib.Core.Path.{◌≡◌, refl, sym, ap, ap₂, subst, ◌∙◌, fun_ex
 use native.Mathlib.Omega.{arith}
 use lib.ListN.{length, get_or, take, drop}
 use borrow.Author.Tests.{lt-ltb}
+use Rattle.std.specs.Prelude.{Result, Ok}
 use Rattle.laws.proofs.Choose.{true_T}
 use Rattle.laws.proofs.Part.{length_part, get_or_part, length_put}
 use Rattle.laws.proofs.Patch.{patched, patch_all}
@@ -25,17 +26,17 @@ use Rattle.rebuild.specs.Inner.{StripLost}
 use Rattle.rebuild.specs.Lost.{whole_byte, whole_data}
 use Rattle.revision.specs.Revision.{renewed}
 use Rattle.revision.specs.declared.Age.TheVariants.{Current}
-use Rattle.write.proofs.Accepted.{put_patched}
+use Rattle.write.proofs.After.{put_patched}
 use Rattle.write.proofs.Laws.{placed_length}
 use Rattle.present.specs.Present.{present_moved, present_placed, present_written}
 use Rattle.present.specs.Steps.{Target}
 use Rattle.write.specs.Steps.{Placed, settled}
-use Rattle.write.specs.declared.Written.{Written}
-use Rattle.write.specs.declared.Written.TheVariants.{Accepted}
 use Rattle.away.proofs.Back.{comes_back}
 use Rattle.away.proofs.Empty.{difference_there}
 use Rattle.away.specs.Away.{away_difference, away_written, away_judged}
 use Rattle.away.specs.Steps.{Away, restored_in, Back, AwayPlaced}
+use Rattle.write.specs.declared.Accepted.{Accepted}
+use Rattle.write.specs.declared.Refused.{Refused}
 
 -- ---- a strip of a present column: x is whether it is lost
 
@@ -152,8 +153,8 @@ module _ (s u : List ℕ) (q : Params) (m i t : ℕ) (v : List ℕ) (n : ℕ) (A
           length_put p (strip_at q i t) v
           (omega (arith, moved, A.target.width, A.target.accepted.len, strip_in q i t A.target.column A.target.row, parity_in q))
 
-  pub away_left : (z : List ℕ) (b : ℕ) (x : Written) → Leaves (settled u i b n) x z → Leaves (away_judged s q m i t b v Current) x z
+  pub away_left : (z : List ℕ) (b : ℕ) (x : Result Accepted Refused) → Leaves (settled u i b n) x z → Leaves (away_judged s q m i t b v Current) x z
   unfolding away_judged away_written present_written settled
   away_left z b x =
-      subst (λ (l : Left Written). Leaves l x z)
-      (ap₂ (λ (c : ℕ) (l : List ℕ). record { answer = Accepted (renewed b) c; image = put32 l (revision_at i) (renewed b) }) P.counted P.bytes)
+      subst (λ (l : Left (Result Accepted Refused)). Leaves l x z)
+      (ap₂ (λ (c : ℕ) (l : List ℕ). record { answer = Ok (record { revision = renewed b; count = c }); image = put32 l (revision_at i) (renewed b) }) P.counted P.bytes)

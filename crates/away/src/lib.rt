@@ -15,8 +15,8 @@ ghost use Rattle.away.specs.Away.{away_judged, away_of};
 ghost use Rattle.away.specs.Steps.{Away, Lent, restored_in, Back, AwayPlaced};
 
 use refusal::Refusal;
-use stripe::{Params, Reading};
-use write::Written;
+use stripe::Params;
+use write::{Accepted, Refused};
 
 // Copies the strip at a place.
 fn hold(image: &[u8], at: usize, held: &mut [u8])
@@ -121,7 +121,7 @@ fn accept(
     row: usize,
     base: u32,
     strip: &[u8],
-) -> Written
+) -> Result<Accepted, Refused>
     requires { Away image.old q lost column row strip.now }
     ensures { Leaves (away_judged image.old q lost column row base strip.now Current) result image.new }
 {
@@ -138,13 +138,13 @@ fn write_sound(
     row: usize,
     base: u32,
     strip: &[u8],
-) -> Written
+) -> Result<Accepted, Refused>
     requires { Away image.old q lost column row strip.now }
     ensures { Leaves (away_judged image.old q lost column row base strip.now (judged (revision_of image.old column) base)) result image.new }
 {
     let age = write::age_of(image, q, column, base);
     if !age.is_current() {
-        return Written::Aged(age);
+        return Err(Refused::Aged(age));
     }
     accept(image, q, lost, column, row, base, strip)
 }
@@ -168,24 +168,21 @@ pub fn write(
     row: usize,
     base: u32,
     strip: &[u8],
-) -> Written
+) -> Result<Accepted, Refused>
     ensures { Leaves (away_of image.old lost column row base strip.now) result image.new }
 {
-    let reading = stripe::read(image);
-    let Reading::Stripe(q) = reading else {
-        return Written::Refused(reading.refusal());
-    };
+    let q = stripe::read(image)?;
     if !is_within(q, lost, column) {
-        return Written::Refused(Refusal::Column);
+        return Err(Refused::Other(Refusal::Column));
     }
     if row >= q.p - 1 {
-        return Written::Refused(Refusal::Row);
+        return Err(Refused::Other(Refusal::Row));
     }
     if strip.len() != q.b {
-        return Written::Refused(Refusal::Width);
+        return Err(Refused::Other(Refusal::Width));
     }
     if !pattern::is_few(q, lost) {
-        return Written::Refused(Refusal::Many);
+        return Err(Refused::Other(Refusal::Many));
     }
     write_sound(image, q, lost, column, row, base, strip)
 }

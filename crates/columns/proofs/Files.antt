@@ -7,6 +7,7 @@ use native.Mathlib.Omega.{arith}
 use lib.ListN.{length, take, drop, length-append}
 use lib.Seq.{take_at, drop_at}
 use borrow.Author.Tests.{lt-ltb, le-ltb, eq-eqb}
+use Rattle.std.specs.Prelude.{Ok}
 use Rattle.laws.proofs.Tab.{length_tab}
 use Rattle.laws.specs.Bit.{bit}
 use Rattle.laws.specs.Number.{u16}
@@ -17,12 +18,10 @@ use Rattle.stripe.specs.Layout.{rows, column_length}
 use Rattle.stripe.specs.Params.{checked_of, Admitted}
 use Rattle.stripe.specs.Reading.{Image}
 use Rattle.stripe.specs.Sections.{sixteen, opening}
-use Rattle.stripe.specs.declared.Checked.TheVariants.{Sound}
 use Rattle.stripe.specs.declared.Params.{Params}
 use Rattle.column_file.proofs.Columns.{carried_small, flag_small, length_revisions, length_strips, length_file}
 use Rattle.column_file.specs.File.{flag, carried, file_1, file_2, file_3, number_at, flag_at, carried_at, revisions_from, strips_count_at, strips_from, file_length, file_holding, revisions_of, strips_of, file_of}
 use Rattle.file_by_file.specs.Files.{first_params, alike, counted, body_step, column_step, checked_step, step_of}
-use Rattle.file_by_file.specs.declared.Step.TheVariants.{File}
 use Rattle.filling.specs.Filled.{put_column, put_file}
 
 part_in : (t pre v post : List ℕ) (at n : ℕ) → t ≡ pre ++ (v ++ post) → length pre ≡ at → length v ≡ n → part t at n ≡ v
@@ -148,11 +147,11 @@ module _ (s : List ℕ) (q : Params) (i : Image s q) (n : ℕ) (h : n < q.k + q.
   file_put t = ap₂ (λ (x y : List ℕ). put_column q n x y t) revisions_are strips_are
 
   -- import accepts it
-  pub stepped : (met : ℕ) → First files q → bit met n ≡ 0 → step_of files at met ≡ File n (at + file_length q n)
+  pub stepped : (met : ℕ) → First files q → bit met n ≡ 0 → step_of files at met ≡ Ok (record { column = n; end = at + file_length q n })
   unfolding step_of checked_step column_step body_step alike counted
   stepped met F fresh =
       let long = length_files in
-      let c : checked_of (u16 files (at + 2)) (u16 files (at + 4)) (u16 files (at + 6)) (u16 files (at + 8)) ≡ Sound q =
+      let c : checked_of (u16 files (at + 2)) (u16 files (at + 4)) (u16 files (at + 6)) (u16 files (at + 8)) ≡ Ok q =
       ap₂ (λ (x y : ℕ). checked_of x y (u16 files (at + 6)) (u16 files (at + 8))) is_p is_k ∙ ap₂ (λ (x y : ℕ). checked_of q.p q.k x y) is_r is_b ∙ sym (admitted_checked q A) in
       simp (le-ltb (length files - at) 2 (omega arith), eq-eqb (u16 files at) 6 six, le-ltb (length files - at) 14 (omega arith))
       (ap (checked_step files at met) c

@@ -8,12 +8,12 @@ use native.Mathlib.Omega.{arith}
 use lib.ListN.{length, get_or, length-append}
 use lib.Seq.{ext_get_or}
 use borrow.Author.Tests.{eq-eqb, lt-ltb}
+use Rattle.std.specs.Prelude.{Ok}
 use Rattle.laws.proofs.Bit.{pack_ext, pack_zero}
 use Rattle.laws.proofs.Part.{length_part, get_or_part}
 use Rattle.laws.proofs.Tab.{length_tab, get_or_tab, is_tab}
 use Rattle.laws.specs.Choose.{choose}
 use Rattle.laws.specs.Part.{part, tab}
-use Rattle.refusal.specs.declared.Outcome.TheVariants.{Done}
 use Rattle.stripe.proofs.Frame.{image_read}
 use Rattle.stripe.proofs.Images.{length_image_of, of_opening, of_revisions, of_third, of_columns, of_fourth, of_parities, image_of_image}
 use Rattle.stripe.specs.Layout.{column_length, revision_at, data_from, data_count_at, parity_count_at, parity_from, image_length}
@@ -27,8 +27,6 @@ use Rattle.columns.specs.Export.{export_sound, export_read, export_of}
 use Rattle.filling.specs.Filled.{blank, fill}
 use Rattle.columns.specs.Import.{import_sound, import_met, import_of}
 use Rattle.columns.specs.Only.{among, Listed, more, AllListed, exported, only_revisions, only_columns, only_parities, only, others}
-use Rattle.columns.specs.declared.Imported.TheVariants.{Absent}
-use Rattle.file_by_file.specs.declared.Met.TheVariants.{Columns}
 use Rattle.columns.proofs.Files.{First, first_file, first_is}
 use Rattle.column_file.proofs.Columns.{length_file}
 use Rattle.columns.proofs.Marks.{marked, absent_others}
@@ -150,25 +148,25 @@ many s q i (n ∷ ns) (more h a L) = simp length-append (omega (arith, length_fi
 
 module _ (s : List ℕ) (q : Params) (i : Image s q) where
   -- "Export writes one file for column n"
-  pub export_done : (n : ℕ) (t : List ℕ) → n < q.k + q.r → length t ≡ file_length q n → export_of s n t ≡ record { answer = Done; image = file_of s q n }
+  pub export_done : (n : ℕ) (t : List ℕ) → n < q.k + q.r → length t ≡ file_length q n → export_of s n t ≡ record { answer = Ok tt; image = file_of s q n }
   unfolding export_of export_read export_sound
   export_done n t h l = ap (export_read s n t) (sym (image_read s q i)) ∙ simp (lt-ltb n (q.k + q.r) h, eq-eqb (length t) (file_length q n) l)
 
   -- any columns, in the order of the list: "Absent columns and their revisions are filled with zeros"
   pub import_exported : (n : ℕ) (ns t : List ℕ) → Listed q (n ∷ ns) → length t ≡ image_length q
-      → import_of (exported s q (n ∷ ns)) t ≡ record { answer = Absent (others q (n ∷ ns)); image = only s q (n ∷ ns) }
+      → import_of (exported s q (n ∷ ns)) t ≡ record { answer = Ok (others q (n ∷ ns)); image = only s q (n ∷ ns) }
   unfolding import_of import_met import_sound exported
   import_exported n ns t (more h a L) l =
       let K : Listed q (n ∷ ns) = more h a L in
       let files : List ℕ = exported s q (n ∷ ns) in
       let b : length (n ∷ ns) ≤ length files = many s q i (n ∷ ns) K in
       let F : First files q = first_file s q i n h files [] (exported s q ns) 0 refl refl refl in
-      let w : walk (length files - 0) files 0 0 ≡ Columns (marked 0 (n ∷ ns)) = walked s q i files n ns [] 0 0 (length files - 0) K F refl refl (λ m g. bit_zero m) (omega arith) in
+      let w : walk (length files - 0) files 0 0 ≡ Ok (marked 0 (n ∷ ns)) = walked s q i files n ns [] 0 0 (length files - 0) K F refl refl (λ m g. bit_zero m) (omega arith) in
       let f : fill (length files - 0) files q 0 (blank q) ≡ only s q (n ∷ ns) = filled s q i files (n ∷ ns) [] (blank q) 0 (length files - 0) K refl refl (omega arith) ∙ placed_only s q (n ∷ ns) i K in
       ap (import_met files t) w
       ∙ ap (λ (x : Params). import_sound files t x (marked 0 (n ∷ ns))) (first_is files q F)
       ∙ simp (eq-eqb (length t) (image_length q) l)
-      (ap₂ (λ (x : ℕ) (y : List ℕ). record { answer = Absent x; image = y }) (absent_others q (n ∷ ns) K) f)
+      (ap₂ (λ (x : ℕ) (y : List ℕ). record { answer = Ok x; image = y }) (absent_others q (n ∷ ns) K) f)
 
   -- ---- all columns
 
@@ -197,6 +195,6 @@ module _ (s : List ℕ) (q : Params) (i : Image s q) where
 
   -- "Exporting all columns and importing them in any order gives the image back."
   pub import_all : ((o : ℕ) → get_or s o 0 < 256) → (n : ℕ) (ns t : List ℕ) → Listed q (n ∷ ns) → AllListed q (n ∷ ns) → length t ≡ image_length q
-      → import_of (exported s q (n ∷ ns)) t ≡ record { answer = Absent 0; image = s }
+      → import_of (exported s q (n ∷ ns)) t ≡ record { answer = Ok 0; image = s }
   import_all small n ns t L all l =
-      import_exported n ns t L l ∙ ap₂ (λ (x : ℕ) (y : List ℕ). record { answer = Absent x; image = y }) (others_none (n ∷ ns) all) (only_all (n ∷ ns) all small)
+      import_exported n ns t L l ∙ ap₂ (λ (x : ℕ) (y : List ℕ). record { answer = Ok x; image = y }) (others_none (n ∷ ns) all) (only_all (n ∷ ns) all small)

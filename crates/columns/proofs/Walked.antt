@@ -6,6 +6,7 @@ use mathlib.Core.Path.{◌≡◌, sym, ap, ◌∙◌}
 use native.Mathlib.Omega.{arith}
 use lib.ListN.{length, length-append}
 use borrow.Author.Tests.{lt-ltb, le-ltb}
+use Rattle.std.specs.Prelude.{Result, Ok}
 use Rattle.laws.specs.Number.{u16}
 use Rattle.laws.specs.Xor.{◌⊕◌}
 use Rattle.stripe.specs.Reading.{Image}
@@ -14,14 +15,12 @@ use Rattle.column_file.specs.File.{number_at, file_length, revisions_of, strips_
 use Rattle.file_by_file.specs.Files.{step_of, onward, walk}
 use Rattle.filling.specs.Filled.{put_column, put_file, fill}
 use Rattle.columns.specs.Only.{Listed, more, exported}
-use Rattle.file_by_file.specs.declared.Met.{Met}
-use Rattle.file_by_file.specs.declared.Met.TheVariants.{Columns}
-use Rattle.file_by_file.specs.declared.Step.{Step}
-use Rattle.file_by_file.specs.declared.Step.TheVariants.{File}
 use Rattle.column_file.proofs.Columns.{length_file}
 use Rattle.filling.proofs.Turns.{fill_none}
 use Rattle.columns.proofs.Files.{First, stepped, length_files, is_n, file_put}
 use Rattle.columns.proofs.Marks.{Fresh, marked, fresh_head, fresh_tail}
+use Rattle.refusal.specs.declared.Refusal.{Refusal}
+use Rattle.file_by_file.specs.declared.File.{File}
 
 -- the columns of s that are listed, put one after the other into t
 unfoldable pub placed : List ℕ → Params → List ℕ → List ℕ → List ℕ
@@ -48,21 +47,21 @@ module _ (s : List ℕ) (q : Params) (i : Image s q) (files : List ℕ) where
   unfolding exported
   some_left n ns h = simp length-append (omega (arith, length_file s q i n h))
 
-  walk_step : (left at met : ℕ) (w : Step) → step_of files at met ≡ w → walk (suc left) files at met ≡ onward files met (λ to m. walk left files to m) w
+  walk_step : (left at met : ℕ) (w : Result File Refusal) → step_of files at met ≡ w → walk (suc left) files at met ≡ onward files met (λ to m. walk left files to m) w
   unfolding walk
   walk_step left at met w e = ap (onward files met (λ to m. walk left files to m)) e
 
-  onward_last : (met n to : ℕ) (rest : ℕ → ℕ → Met) → length files ≤ to → onward files met rest (File n to) ≡ Columns (met ⊕ 2 ^ n)
+  onward_last : (met n to : ℕ) (rest : ℕ → ℕ → Result ℕ Refusal) → length files ≤ to → onward files met rest (Ok (record { column = n; end = to })) ≡ Ok (met ⊕ 2 ^ n)
   unfolding onward
   onward_last met n to rest h = simp (le-ltb to (length files) h)
 
-  onward_more : (met n to : ℕ) (rest : ℕ → ℕ → Met) → to < length files → onward files met rest (File n to) ≡ rest to (met ⊕ 2 ^ n)
+  onward_more : (met n to : ℕ) (rest : ℕ → ℕ → Result ℕ Refusal) → to < length files → onward files met rest (Ok (record { column = n; end = to })) ≡ rest to (met ⊕ 2 ^ n)
   unfolding onward
   onward_more met n to rest h = simp (lt-ltb to (length files) h)
 
   -- pass one: from the file of column n on
   pub walked : (n : ℕ) (ns pre : List ℕ) (at met left : ℕ) → Listed q (n ∷ ns) → First files q → files ≡ pre ++ exported s q (n ∷ ns) → length pre ≡ at
-      → Fresh met (n ∷ ns) → length ns < left → walk left files at met ≡ Columns (marked met (n ∷ ns))
+      → Fresh met (n ∷ ns) → length ns < left → walk left files at met ≡ Ok (marked met (n ∷ ns))
   unfolding marked exported
   walked n ns pre at met zero L F e l f b = absurd (omega arith)
   walked n [] pre at met (suc left) (more h a L) F e l f b =

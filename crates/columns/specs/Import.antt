@@ -1,7 +1,7 @@
 -- Request 4: "Import takes any set of such files, one after another in a lent slice, and fills an image and the pattern of absent columns. Absent columns
 -- and their revisions are filled with zeros." "after all files, ROOM for an image not of L bytes".
 -- Assumes nothing.
-use Rattle.std.specs.Prelude.{ℕ, ◌+◌, List, eqb, length}
+use Rattle.std.specs.Prelude.{ℕ, ◌+◌, List, eqb, length, Result, Ok, Err}
 use Rattle.laws.specs.Bit.{bit, pack}
 use Rattle.laws.specs.Choose.{choose}
 use Rattle.laws.specs.Left.{Left}
@@ -10,13 +10,8 @@ use Rattle.refusal.specs.declared.Refusal.TheVariants.{Room}
 use Rattle.stripe.specs.Layout.{image_length}
 use Rattle.stripe.specs.declared.Params.{Params}
 use Rattle.file_by_file.specs.Files.{first_params, met_from}
-use Rattle.file_by_file.specs.declared.Met.{Met}
-use Rattle.file_by_file.specs.declared.Met.TheVariants.{Columns, Refused as Unmet}
 use Rattle.filling.specs.Filled.{blank, filled_from}
-use Rattle.columns.specs.declared.Imported.{Imported}
-use Rattle.columns.specs.declared.Imported.TheVariants.{Absent, Refused}
-use Rattle.columns.specs.declared.Measured.{Measured}
-use Rattle.columns.specs.declared.Measured.TheVariants.{Bytes, Refused as Unmeasured}
+use Rattle.refusal.specs.declared.Refusal.{Refusal}
 
 -- "the pattern of absent columns": bit n is set where column n was not met
 unfoldable pub absent : Params → ℕ → ℕ
@@ -25,32 +20,23 @@ absent q met = pack (q.k + q.r) (λ n. choose (eqb (bit met n) 0) 1 0)
 -- ---- the call; t is the lent image
 
 -- "after all files, ROOM for an image not of L bytes"
-unfoldable pub import_sound : List ℕ → List ℕ → Params → ℕ → Left Imported
+unfoldable pub import_sound : List ℕ → List ℕ → Params → ℕ → Left (Result ℕ Refusal)
 import_sound s t q met =
     choose (eqb (length t) (image_length q))
-    (record { answer = Absent (absent q met); image = filled_from s q 0 (blank q) })
-    (record { answer = Refused Room; image = t })
+    (record { answer = Ok (absent q met); image = filled_from s q 0 (blank q) })
+    (record { answer = Err Room; image = t })
 
-unfoldable pub import_met : List ℕ → List ℕ → Met → Left Imported
-import_met s t (Columns met) = import_sound s t (first_params s) met
-import_met s t (Unmet e) = record { answer = Refused e; image = t }
+unfoldable pub import_met : List ℕ → List ℕ → Result ℕ Refusal → Left (Result ℕ Refusal)
+import_met s t (Ok met) = import_sound s t (first_params s) met
+import_met s t (Err e) = record { answer = Err e; image = t }
 
-unfoldable pub import_of : List ℕ → List ℕ → Left Imported
+unfoldable pub import_of : List ℕ → List ℕ → Left (Result ℕ Refusal)
 import_of s t = import_met s t (met_from s 0 0)
 
 -- "L bytes" of the image that files make, for a caller that lends it: refused as import is, but for ROOM
-unfoldable pub files_length_met : List ℕ → Met → Measured
-files_length_met s (Columns met) = Bytes (image_length (first_params s))
-files_length_met s (Unmet e) = Unmeasured e
+unfoldable pub files_length_met : List ℕ → Result ℕ Refusal → Result ℕ Refusal
+files_length_met s (Ok met) = Ok (image_length (first_params s))
+files_length_met s (Err e) = Err e
 
-unfoldable pub files_length_of : List ℕ → Measured
+unfoldable pub files_length_of : List ℕ → Result ℕ Refusal
 files_length_of s = files_length_met s (met_from s 0 0)
-
--- "A refusal carries its number; every number beside it is 0"
-abbrev pub imported_number : Imported → ℕ
-imported_number (Absent w) = 0
-imported_number (Refused e) = number_of e
-
-abbrev pub imported_value : Imported → ℕ
-imported_value (Absent w) = w
-imported_value (Refused e) = 0

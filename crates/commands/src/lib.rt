@@ -3,16 +3,16 @@
 #![tactic(auto)]
 
 ghost use Rattle.std.specs.Prelude.{◌≡◌, ◌≤◌, length, replicate};
-ghost use Rattle.columns.specs.Export.{measured_value};
+ghost use Rattle.refusal.specs.Number.{answer_value};
 
 use answers::Answer;
-use columns::{Imported, Measured};
 use files::Taken;
 use images::Changed;
+use refusal::Refusal;
 use std::rt::{Env, Files};
-use stripe::{Params, Reading};
+use stripe::Params;
 use words::Command;
-use write::Written;
+use write::{Accepted, Refused};
 
 // Room for the files of all columns, and for the section one of a file more: by that all that follows is refused as in the whole.
 const FILES_ROOM: usize = columns::LARGEST_FILES + column_file::CARRIED_AT;
@@ -34,10 +34,9 @@ fn blank_files() -> [u8; FILES_ROOM]
 
 // report: the lines of the report program.
 fn report(rt: &(impl Print + Eprint), image: &[u8]) -> Answer {
-    let reading = stripe::read(image);
-    let Reading::Stripe(_) = reading else {
-        return Answer::Refused(reading.refusal());
-    };
+    if let Err(e) = stripe::read(image) {
+        return Answer::Refused(e);
+    }
     files::check_output(rt, reporting::describe(rt, image));
     Answer::Said
 }
@@ -65,11 +64,11 @@ fn view(
 }
 
 // The answer of a write.
-fn accepted(written: Written) -> Answer {
+fn accepted(written: Result<Accepted, Refused>) -> Answer {
     match written {
-        Written::Accepted(revision, count) => Answer::Accepted(revision, count),
-        Written::Aged(age) => Answer::Aged(age),
-        Written::Refused(e) => Answer::Refused(e),
+        Ok(Accepted { revision, count }) => Answer::Accepted(revision, count),
+        Err(Refused::Aged(age)) => Answer::Aged(age),
+        Err(Refused::Other(e)) => Answer::Refused(e),
     }
 }
 
@@ -101,13 +100,10 @@ fn write_strip(
 }
 
 // How many bytes were measured; 0 where that was refused.
-fn measured_room(measured: Measured) -> usize
-    ensures { result ≡ measured_value measured }
+fn measured_room(measured: Result<usize, Refusal>) -> usize
+    ensures { result ≡ answer_value measured }
 {
-    match measured {
-        Measured::Bytes(n) => n,
-        Measured::Refused(_) => 0,
-    }
+    measured.unwrap_or(0)
 }
 
 // export: the file of one column of an image.
@@ -133,10 +129,10 @@ fn export(
 }
 
 // The answer of an import.
-fn absent(imported: Imported) -> Answer {
+fn absent(imported: Result<u64, Refusal>) -> Answer {
     match imported {
-        Imported::Absent(w) => Answer::Absent(w),
-        Imported::Refused(e) => Answer::Refused(e),
+        Ok(w) => Answer::Absent(w),
+        Err(e) => Answer::Refused(e),
     }
 }
 

@@ -2,13 +2,12 @@
 #![tactic(auto)]
 
 use drawing::fill;
-use parity::Checkup;
-use refusal::{Outcome, Refusal};
-use ring::Element;
+use refusal::Refusal;
 use second_ground::{No, Shape, Slip, Unwritten, Written};
 use second_lost::Asked;
-use stripe::{Checked, Params, Reading};
+use stripe::Params;
 use total::part;
+use write::{Accepted, Refused};
 
 // All numbers of refusal lie below it.
 const REFUSALS_END: usize = 18;
@@ -67,16 +66,14 @@ impl From<Result<Written, Unwritten>> for Answer {
     }
 }
 
-impl From<write::Written> for Answer {
-    fn from(written: write::Written) -> Answer {
+impl From<Result<Accepted, Refused>> for Answer {
+    fn from(written: Result<Accepted, Refused>) -> Answer {
         match written {
-            write::Written::Accepted(revision, count) => {
-                Answer([0, u64::from(revision), count, 0, 0])
-            }
-            write::Written::Aged(age) => {
+            Ok(to) => Answer([0, u64::from(to.revision), to.count, 0, 0]),
+            Err(Refused::Aged(age)) => {
                 Answer([age.number(), u64::from(age.distance()), 0, 0, 0])
             }
-            write::Written::Refused(no) => Answer::refused(no.number()),
+            Err(Refused::Other(no)) => Answer::refused(no.number()),
         }
     }
 }
@@ -92,39 +89,32 @@ fn of_params(q: Params) -> Shape {
     }
 }
 
-pub fn of_checked(c: Checked) -> Answer {
-    Answer::from(match c {
-        Checked::Sound(q) => Ok(of_params(q)),
-        Checked::Refused(no) => Err(no.number()),
-    })
+// The library's answers in numbers.
+impl From<Result<Params, Refusal>> for Answer {
+    fn from(read: Result<Params, Refusal>) -> Answer {
+        Answer::from(match read {
+            Ok(q) => Ok(of_params(q)),
+            Err(no) => Err(no.number()),
+        })
+    }
 }
 
-pub fn of_reading(r: Reading) -> Answer {
-    Answer::from(match r {
-        Reading::Stripe(q) => Ok(of_params(q)),
-        Reading::Refused(no) => Err(no.number()),
-    })
+impl From<Result<u64, Refusal>> for Answer {
+    fn from(word: Result<u64, Refusal>) -> Answer {
+        Answer::from(match word {
+            Ok(w) => Ok(w),
+            Err(no) => Err(no.number()),
+        })
+    }
 }
 
-fn of_element(e: Element) -> Answer {
-    Answer::from(match e {
-        Element::Word(w) => Ok(w),
-        Element::Refused(no) => Err(no.number()),
-    })
-}
-
-fn of_checkup(c: Checkup) -> Answer {
-    Answer::from(match c {
-        Checkup::Wrong(w) => Ok(w),
-        Checkup::Refused(no) => Err(no.number()),
-    })
-}
-
-pub fn of_outcome(o: Outcome) -> Answer {
-    Answer::from(match o {
-        Outcome::Done => Ok(()),
-        Outcome::Refused(no) => Err(no.number()),
-    })
+impl From<Result<(), Refusal>> for Answer {
+    fn from(done: Result<(), Refusal>) -> Answer {
+        Answer::from(match done {
+            Ok(()) => Ok(()),
+            Err(no) => Err(no.number()),
+        })
+    }
 }
 
 // How many places of two slices hold different items, and one more where their lengths differ.
@@ -202,31 +192,31 @@ impl Tally {
 
     // The parameters' test.
     pub fn parameters(&mut self, q: Shape) {
-        let answer = of_checked(Params::checked(q.p, q.k, q.r, q.b));
+        let answer = Answer::from(Params::checked(q.p, q.k, q.r, q.b));
         self.compare(answer, Answer::from(q.tested().map_err(No::number)));
     }
 
     // Reading.
     pub fn read(&mut self, image: &[u8]) {
         let due = second_ground::read(image, None).map_err(No::number);
-        self.compare(of_reading(stripe::read(image)), Answer::from(due));
+        self.compare(Answer::from(stripe::read(image)), Answer::from(due));
     }
 
     // The product of two words.
     pub fn product(&mut self, p: usize, u: u64, v: u64) {
         let due = second_ground::product(p, u, v).map_err(No::number);
-        self.compare(of_element(ring::product(p, u, v)), Answer::from(due));
+        self.compare(Answer::from(ring::product(p, u, v)), Answer::from(due));
     }
 
     // The division of a word.
     pub fn divide(&mut self, p: usize, s: u64, a: usize, b: usize, slip: Option<Slip>) {
         let due = second_ground::divide(p, s, a, b, slip).map_err(No::number);
-        self.compare(of_element(ring::divide(p, s, a, b)), Answer::from(due));
+        self.compare(Answer::from(ring::divide(p, s, a, b)), Answer::from(due));
     }
 
     // Make.
     pub fn make(&mut self, q: Shape, given: &[u8], one: &mut [u8], two: &mut [u8]) {
-        let answer = of_outcome(parity::make(q.p, q.k, q.r, q.b, given, one));
+        let answer = Answer::from(parity::make(q.p, q.k, q.r, q.b, given, one));
         let due = second::make(q, given, two).map_err(No::number);
         self.compare(answer, Answer::from(due));
         self.add(apart(one, two));
@@ -241,13 +231,13 @@ impl Tally {
     // Makes one image from drawn data, by the library.
     pub fn make_again(&mut self, q: Shape, c: usize, image: &mut [u8], room: &mut [u8]) {
         let given = draw_data(q, c, room);
-        let answer = of_outcome(parity::make(q.p, q.k, q.r, q.b, given, image));
+        let answer = Answer::from(parity::make(q.p, q.k, q.r, q.b, given, image));
         self.compare(answer, answer);
     }
 
     // Refill.
     pub fn refill(&mut self, pair: &mut Pair, slip: Option<Slip>) {
-        let answer = of_outcome(parity::refill(pair.one));
+        let answer = Answer::from(parity::refill(pair.one));
         let due = second::refill(pair.two, slip).map_err(No::number);
         self.compare(answer, Answer::from(due));
         self.add(pair.apart());
@@ -256,14 +246,14 @@ impl Tally {
     // Check of the library's image.
     pub fn check(&mut self, pair: &mut Pair, slip: Option<Slip>) {
         let image = &mut *pair.one;
-        let answer = of_checkup(parity::check(image));
+        let answer = Answer::from(parity::check(image));
         let due = second::check(image, pair.room, slip).map_err(No::number);
         self.compare(answer, Answer::from(due));
     }
 
     // Rebuild.
     pub fn rebuild(&mut self, pair: &mut Pair, lost: u64, slip: Option<Slip>) {
-        let answer = of_outcome(rebuild::rebuild(pair.one, lost));
+        let answer = Answer::from(rebuild::rebuild(pair.one, lost));
         let due = second_lost::rebuild(pair.two, lost, slip).map_err(No::number);
         self.compare(answer, Answer::from(due));
         self.add(pair.apart());
@@ -278,7 +268,7 @@ impl Tally {
         };
         let Asked { lost, column, row } = asked;
         let image = &mut *pair.one;
-        let answer = of_outcome(rebuild::restore(image, lost, column, row, first));
+        let answer = Answer::from(rebuild::restore(image, lost, column, row, first));
         let due = second_lost::restore(image, asked, second, pair.room, slip);
         self.compare(answer, Answer::from(due.map_err(No::number)));
         self.add(apart(&one, &two));

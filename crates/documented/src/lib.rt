@@ -2,7 +2,7 @@
 // slip what it says that the slip would give.
 #![tactic(auto)]
 
-use comparing::{Answer, Tally, apart, of_checked, of_outcome, of_reading};
+use comparing::{Answer, Tally, apart};
 use histories::{Way, library_write, second_write};
 use second_ground::{HALF_CIRCLE, No, Note, Shape, Slip, Unwritten, Written, read};
 use stripe::Params;
@@ -59,14 +59,14 @@ fn shape_or(q: Shape, no: Option<No>) -> Answer {
 fn limit(t: &mut Tally, p: usize, k: usize, r: usize, b: usize, no: Option<No>) {
     let slip = None;
     let q = Shape { p, k, r, b, slip };
-    let a = of_checked(Params::checked(p, k, r, b));
+    let a = Answer::from(Params::checked(p, k, r, b));
     let b = Answer::from(q.tested().map_err(No::number));
     answer_due(t, a, b, shape_or(q, no));
 }
 
 // I, or I with fewer or more bytes, and the refusal that is due or none.
 fn reading(t: &mut Tally, image: &[u8], no: Option<No>) {
-    let a = of_reading(stripe::read(image));
+    let a = Answer::from(stripe::read(image));
     let b = Answer::from(read(image, None).map_err(No::number));
     answer_due(t, a, b, shape_or(shape(), no));
 }
@@ -91,7 +91,7 @@ pub fn limits(t: &mut Tally) {
 fn made<const N: usize>(t: &mut Tally, q: Shape, given: &[u8], due: &[u8; N]) {
     let mut one = [0; N];
     let mut two = [0; N];
-    let a = of_outcome(parity::make(q.p, q.k, q.r, q.b, given, &mut one));
+    let a = Answer::from(parity::make(q.p, q.k, q.r, q.b, given, &mut one));
     let b = Answer::from(second::make(q, given, &mut two).map_err(No::number));
     answer_due(t, a, b, Answer::from(Ok(())));
     image_due(t, &one, &two, due);
@@ -195,7 +195,7 @@ fn accepted_write(t: &mut Tally, slip: Option<Slip>) {
 // A lost column's bytes are not read.
 fn lost(t: &mut Tally, slip: Option<Slip>) {
     let (mut one, mut two) = (SPOILED, SPOILED);
-    let a = of_outcome(rebuild::rebuild(&mut one, 3));
+    let a = Answer::from(rebuild::rebuild(&mut one, 3));
     let b = Answer::from(second_lost::rebuild(&mut two, 3, slip).map_err(No::number));
     answer_due(t, a, b, Answer::from(Ok(())));
     image_due(t, &one, &two, &EXAMPLE);

@@ -4,47 +4,16 @@
 ghost use Rattle.std.specs.Prelude.{◌≡◌, ◌+◌, ◌^◌, ◌<◌, ◌≤◌, length};
 ghost use Rattle.laws.specs.Xor.{◌⊕◌};
 ghost use Rattle.file_by_file.specs.Files.{alike, counted, body_step, column_step, step_of, met_from};
-ghost use Rattle.file_by_file.specs.Inner.{step_refusal, met_refusal, Head, Start, Whole};
+ghost use Rattle.file_by_file.specs.Inner.{Head, Start, Whole};
 
 use refusal::Refusal;
-use stripe::{Checked, Params};
+use stripe::Params;
 
-// One file: its column and the place behind it; or the refusal.
+// One file: its column, and the place where it ends.
 #[derive(Clone, Copy)]
-pub enum Step {
-    File(usize, usize),
-    Refused(Refusal),
-}
-
-// The columns that were met, as a pattern, or the refusal.
-#[derive(Clone, Copy)]
-pub enum Met {
-    Columns(u64),
-    Refused(Refusal),
-}
-
-impl Step {
-    // The refusal of a file; CUT where there is none.
-    fn refusal(self) -> Refusal
-        ensures { result ≡ step_refusal self }
-    {
-        match self {
-            Step::File(_, _) => Refusal::Cut,
-            Step::Refused(e) => e,
-        }
-    }
-}
-
-impl Met {
-    // The refusal of the files; CUT where there is none.
-    pub fn refusal(self) -> Refusal
-        ensures { result ≡ met_refusal self }
-    {
-        match self {
-            Met::Columns(_) => Refusal::Cut,
-            Met::Refused(e) => e,
-        }
-    }
+pub struct File {
+    pub column: usize,
+    pub end: usize,
 }
 
 // Whether the file at a place has the parameters of the first.
@@ -84,68 +53,66 @@ fn is_counted(files: &[u8], at: usize, q: Params, n: usize) -> bool
 }
 
 // The rest of the file of column n at a place: its length, and the other counts.
-fn read_body(files: &[u8], at: usize, q: Params, n: usize) -> Step
+fn read_body(files: &[u8], at: usize, q: Params, n: usize) -> Result<File, Refusal>
     requires { Start files.now q at n }
     ensures { result ≡ body_step files.now at q n }
 {
     let size = column_file::length(q, n);
     if files.len() - at < size {
-        return Step::Refused(Refusal::Cut);
+        return Err(Refusal::Cut);
     }
     if !is_counted(files, at, q, n) {
-        return Step::Refused(Refusal::Count);
+        return Err(Refusal::Count);
     }
-    Step::File(n, at + size)
+    Ok(File {
+        column: n,
+        end: at + size,
+    })
 }
 
 // The file of column n at a place, whose parameters are sound; met has the bits of the columns before it.
-fn read_column(files: &[u8], at: usize, met: u64, q: Params, n: usize) -> Step
+fn read_column(files: &[u8], at: usize, met: u64, q: Params, n: usize) -> Result<File, Refusal>
     requires { Head files.now q at n }
     ensures { result ≡ column_step files.now at met q n }
 {
     if n >= q.k + q.r {
-        return Step::Refused(Refusal::Column);
+        return Err(Refusal::Column);
     }
     if !is_alike(files, at) {
-        return Step::Refused(Refusal::Foreign);
+        return Err(Refusal::Foreign);
     }
     if stripe::number(files, at + column_file::FLAG_AT) != column_file::flag(q, n) {
-        return Step::Refused(Refusal::Foreign);
+        return Err(Refusal::Foreign);
     }
     if (met >> n) % 2 != 0 {
-        return Step::Refused(Refusal::Twice);
+        return Err(Refusal::Twice);
     }
     read_body(files, at, q, n)
 }
 
 // The file at a place; met has the bits of the columns before it.
-fn read_file(files: &[u8], at: usize, met: u64) -> Step
+fn read_file(files: &[u8], at: usize, met: u64) -> Result<File, Refusal>
     requires { at ≤ length files.now }
     ensures { result ≡ step_of files.now at met }
 {
     let left = files.len() - at;
     if left < 2 {
-        return Step::Refused(Refusal::Cut);
+        return Err(Refusal::Cut);
     }
     if stripe::number(files, at) != column_file::NUMBERS {
-        return Step::Refused(Refusal::Count);
+        return Err(Refusal::Count);
     }
     if left < column_file::CARRIED_AT {
-        return Step::Refused(Refusal::Cut);
+        return Err(Refusal::Cut);
     }
-    let checked = stripe::parameters(files, at);
-    match checked {
-        Checked::Sound(q) => {
-            read_column(
-                files,
-                at,
-                met,
-                q,
-                stripe::number(files, at + column_file::COLUMN_AT),
-            )
-        }
-        Checked::Refused(e) => Step::Refused(e),
-    }
+    let q = stripe::parameters(files, at)?;
+    read_column(
+        files,
+        at,
+        met,
+        q,
+        stripe::number(files, at + column_file::COLUMN_AT),
+    )
 }
 
 // A pattern with the bit of a column turned.
@@ -156,21 +123,18 @@ fn with_column(met: u64, n: usize) -> u64
     met ^ (1 << n)
 }
 
-// The columns of all files, or the first refusal that is due.
-pub fn meet(files: &[u8]) -> Met
+// The columns of all files as a pattern, or the first refusal that is due.
+pub fn meet(files: &[u8]) -> Result<u64, Refusal>
     ensures { result ≡ met_from files.now 0 0 }
 {
     let mut at: usize = 0;
     let mut met: u64 = 0;
     loop {
-        let found = read_file(files, at, met);
-        let Step::File(n, to) = found else {
-            return Met::Refused(found.refusal());
-        };
-        met = with_column(met, n);
-        if to >= files.len() {
-            return Met::Columns(met);
+        let file = read_file(files, at, met)?;
+        met = with_column(met, file.column);
+        if file.end >= files.len() {
+            return Ok(met);
         }
-        at = to;
+        at = file.end;
     }
 }

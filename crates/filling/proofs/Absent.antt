@@ -11,6 +11,7 @@ use lib.Dec.{ltb, eqb}
 use lib.ListN.{length, get_or}
 use lib.Seq.{ext_get_or}
 use borrow.Author.Tests.{eq-eqb, ne_eqb}
+use Rattle.std.specs.Prelude.{Result, Ok, Err}
 use Rattle.laws.proofs.Bit.{bit_zero, bit_digit}
 use Rattle.laws.proofs.Part.{length_part, get_or_part}
 use Rattle.laws.proofs.Tab.{length_tab, get_or_tab}
@@ -28,15 +29,14 @@ use Rattle.column_file.specs.File.{carried, number_at, revisions_from, strips_fr
 use Rattle.file_by_file.proofs.Steps.{Accepted, accepted}
 use Rattle.file_by_file.specs.Files.{step_of, onward, walk, first_params}
 use Rattle.file_by_file.specs.Inner.{Whole, Files, end, more}
-use Rattle.file_by_file.specs.declared.Met.TheVariants.{Columns}
-use Rattle.file_by_file.specs.declared.Step.{Step}
-use Rattle.file_by_file.specs.declared.Step.TheVariants.{File, Refused as Bad}
 use Rattle.filling.proofs.Bytes.{Of, Byte, inner, outer, byte, put_there, put_stays, length_put_column}
 use Rattle.filling.proofs.Marks.{mark_other}
 use Rattle.filling.proofs.Spots.{Kind, heads, revisions, third, columns, fourth, parities, kind, revision_byte_of, data_of, parity_of, row_below}
 use Rattle.filling.proofs.Turns.{fill_none, fill_turn, walk_whole}
 use Rattle.filling.specs.Filled.{zeros, blank, put_column, put_file, filled_from}
 use Rattle.filling.specs.Inner.{MetReady, AllReady, cleared_one, cleared}
+use Rattle.refusal.specs.declared.Refusal.{Refusal}
+use Rattle.file_by_file.specs.declared.File.{File}
 
 -- ---- the first columns cleared, where they were not met
 
@@ -147,7 +147,7 @@ marked_by m n c e = go (ℕ_discrete n c)
 abbrev MetLater : List ℕ → ℕ → ℕ → ℕ → Type 0
 MetLater s at m n = (bit m n ≡ 1) ⊎ ((o : ℕ) → Of (first_params s) n o → Later s (first_params s) o at)
 
-met_later : (most : ℕ) (s : List ℕ) (at m met : ℕ) → walk most s at m ≡ Columns met → (n : ℕ) → bit met n ≡ 1 → MetLater s at m n
+met_later : (most : ℕ) (s : List ℕ) (at m met : ℕ) → walk most s at m ≡ Ok met → (n : ℕ) → bit met n ≡ 1 → MetLater s at m n
 unfolding walk onward
 met_later zero s at m met e n b = let z : ◌≡◌ {A = ℕ} 0 1 = cc in absurd (omega arith)
 met_later (suc most) s at m met e n b = go (λ to k f. met_later most s to k met f n b) (step_of s at m) refl e
@@ -165,16 +165,16 @@ met_later (suc most) s at m met e n b = go (λ to k f. met_later most s to k met
     next c to A (inr f) =
         inr (λ o w. there {at = at} (omega (arith, A.whole.here)) (subst (Later s (first_params s) o) (A.next ∙ ap (λ (x : ℕ). at + file_length (first_params s) x) A.column) (f o w)))
 
-    behind : ((to k : ℕ) → walk most s to k ≡ Columns met → MetLater s to k n)
-        → (c to : ℕ) → Accepted s at c to → (v : Bool) → choose v (walk most s to (m ⊕ 2 ^ c)) (Columns (m ⊕ 2 ^ c)) ≡ Columns met
+    behind : ((to k : ℕ) → walk most s to k ≡ Ok met → MetLater s to k n)
+        → (c to : ℕ) → Accepted s at c to → (v : Bool) → choose v (walk most s to (m ⊕ 2 ^ c)) (Ok (m ⊕ 2 ^ c)) ≡ Ok met
         → MetLater s at m n
     behind ih c to A true f = next c to A (ih to (m ⊕ 2 ^ c) f)
     behind ih c to A false f = let z : m ⊕ 2 ^ c ≡ met = cc in this c to A (ap (λ (x : ℕ). bit x n) z ∙ b)
 
-    go : ((to k : ℕ) → walk most s to k ≡ Columns met → MetLater s to k n)
-        → (w : Step) → w ≡ step_of s at m → onward s m (λ to k. walk most s to k) w ≡ Columns met → MetLater s at m n
-    go ih (Bad x) z f = let y : ◌≡◌ {A = ℕ} 0 1 = cc in absurd (omega arith)
-    go ih (File c to) z f = behind ih c to (accepted s at m c to (File c to) refl z) (ltb to (length s)) f
+    go : ((to k : ℕ) → walk most s to k ≡ Ok met → MetLater s to k n)
+        → (w : Result File Refusal) → w ≡ step_of s at m → onward s m (λ to k. walk most s to k) w ≡ Ok met → MetLater s at m n
+    go ih (Err x) z f = let y : ◌≡◌ {A = ℕ} 0 1 = cc in absurd (omega arith)
+    go ih (Ok x) z f = behind ih x.column x.end (accepted s at m x.column x.end (Ok x) refl z) (ltb x.end (length s)) f
 
 -- ---- the turns of `clear_absent`
 

@@ -8,6 +8,7 @@ use native.Mathlib.Omega.{arith}
 use lib.Dec.{ltb}
 use lib.ListN.{length}
 use borrow.Author.Tests.{lt-ltb, le-ltb, ltb-false}
+use Rattle.std.specs.Prelude.{Result, Ok, Err}
 use Rattle.laws.specs.Choose.{choose}
 use Rattle.laws.specs.Number.{u16}
 use Rattle.laws.specs.Xor.{◌⊕◌}
@@ -17,11 +18,10 @@ use Rattle.column_file.specs.File.{number_at, file_length}
 use Rattle.file_by_file.proofs.Steps.{Accepted, accepted}
 use Rattle.file_by_file.specs.Files.{step_of, onward, walk, first_params}
 use Rattle.file_by_file.specs.Inner.{Whole, Files, end, more}
-use Rattle.file_by_file.specs.declared.Met.TheVariants.{Columns}
-use Rattle.file_by_file.specs.declared.Step.{Step}
-use Rattle.file_by_file.specs.declared.Step.TheVariants.{File, Refused as Bad}
 use Rattle.filling.specs.Filled.{put_file, fill, filled_from}
 use Rattle.filling.specs.Inner.{OneReady}
+use Rattle.refusal.specs.declared.Refusal.{Refusal}
+use Rattle.file_by_file.specs.declared.File.{File}
 
 -- ---- the second pass; its fuel is no part of what it gives
 
@@ -84,7 +84,7 @@ filled_end s q at t₀ t f h = sym (fill_none (length s - at) s q at t h) ∙ f
 
 -- ---- the files that the first pass accepted
 
-pub walk_whole : (left : ℕ) (s : List ℕ) (at met m : ℕ) → walk left s at met ≡ Columns m → Whole s (first_params s) at (u16 s (at + number_at)) × Files s (first_params s) at
+pub walk_whole : (left : ℕ) (s : List ℕ) (at met m : ℕ) → walk left s at met ≡ Ok m → Whole s (first_params s) at (u16 s (at + number_at)) × Files s (first_params s) at
 unfolding walk onward
 walk_whole zero s at met m e = let z : ◌≡◌ {A = ℕ} 0 1 = cc in absurd (omega arith)
 walk_whole (suc left) s at met m e = go (λ to w g. walk_whole left s to w m g) (step_of s at met) refl e
@@ -94,12 +94,12 @@ walk_whole (suc left) s at met m e = go (λ to w g. walk_whole left s to w m g) 
         let w : Whole s (first_params s) at (u16 s (at + number_at)) = subst (Whole s (first_params s) at) A.column A.whole in
         (w, more w (subst (Files s (first_params s)) (A.next ∙ ap (λ (x : ℕ). at + file_length (first_params s) x) A.column) F))
 
-    after : ((to w : ℕ) → walk left s to w ≡ Columns m → Whole s (first_params s) to (u16 s (to + number_at)) × Files s (first_params s) to)
-        → (n to : ℕ) (b : Bool) → ltb to (length s) ≡ b → choose b (walk left s to (met ⊕ 2 ^ n)) (Columns (met ⊕ 2 ^ n)) ≡ Columns m → Files s (first_params s) to
+    after : ((to w : ℕ) → walk left s to w ≡ Ok m → Whole s (first_params s) to (u16 s (to + number_at)) × Files s (first_params s) to)
+        → (n to : ℕ) (b : Bool) → ltb to (length s) ≡ b → choose b (walk left s to (met ⊕ 2 ^ n)) (Ok (met ⊕ 2 ^ n)) ≡ Ok m → Files s (first_params s) to
     after ih n to true h f = (ih to (met ⊕ 2 ^ n) f).1
     after ih n to false h f = end (ltb-false to (length s) h)
 
-    go : ((to w : ℕ) → walk left s to w ≡ Columns m → Whole s (first_params s) to (u16 s (to + number_at)) × Files s (first_params s) to)
-        → (w : Step) → w ≡ step_of s at met → onward s met (λ to m. walk left s to m) w ≡ Columns m → Whole s (first_params s) at (u16 s (at + number_at)) × Files s (first_params s) at
-    go ih (Bad x) z f = let y : ◌≡◌ {A = ℕ} 0 1 = cc in absurd (omega arith)
-    go ih (File n to) z f = next n to (accepted s at met n to (File n to) refl z) (after ih n to (ltb to (length s)) refl f)
+    go : ((to w : ℕ) → walk left s to w ≡ Ok m → Whole s (first_params s) to (u16 s (to + number_at)) × Files s (first_params s) to)
+        → (w : Result File Refusal) → w ≡ step_of s at met → onward s met (λ to m. walk left s to m) w ≡ Ok m → Whole s (first_params s) at (u16 s (at + number_at)) × Files s (first_params s) at
+    go ih (Err x) z f = let y : ◌≡◌ {A = ℕ} 0 1 = cc in absurd (omega arith)
+    go ih (Ok x) z f = next x.column x.end (accepted s at met x.column x.end (Ok x) refl z) (after ih x.column x.end (ltb x.end (length s)) refl f)

@@ -1,6 +1,6 @@
 -- What the inner functions ask for, and what clearing leaves.
 -- Assumes nothing.
-use Rattle.std.specs.Prelude.{ℕ, zero, suc, ◌+◌, ◌*◌, ◌<◌, List, ◌≡◌, eqb, length}
+use Rattle.std.specs.Prelude.{ℕ, zero, suc, ◌+◌, ◌*◌, ◌<◌, List, ◌≡◌, eqb, length, Ok}
 use Rattle.laws.specs.Bit.{bit}
 use Rattle.laws.specs.Choose.{choose}
 use Rattle.stripe.specs.Layout.{column_length, image_length}
@@ -9,7 +9,6 @@ use Rattle.stripe.specs.declared.Params.{Params}
 use Rattle.column_file.specs.File.{carried}
 use Rattle.file_by_file.specs.Files.{first_params, met_from}
 use Rattle.file_by_file.specs.Inner.{Whole, Files}
-use Rattle.file_by_file.specs.declared.Met.TheVariants.{Columns}
 use Rattle.filling.specs.Filled.{zeros, put_column}
 
 -- the file of column n, and an image to put the column in
@@ -25,7 +24,7 @@ pub record AllReady (s t : List ℕ) (q : Params) : Type 0 where
 
 -- files whose columns were met, and an image to fill
 pub record MetReady (s t : List ℕ) (q : Params) (met : ℕ) : Type 0 where
-  pub columns : met_from s 0 0 ≡ Columns met
+  pub columns : met_from s 0 0 ≡ Ok met
   pub params : q ≡ first_params s
   pub room : length t ≡ image_length q
 

@@ -5,10 +5,9 @@ ghost use Rattle.std.specs.Prelude.{◌≡◌, ◌≤◌, length};
 
 use answers::Answer;
 use files::Taken;
-use parity::Checkup;
-use refusal::Outcome;
+use refusal::Refusal;
 use std::rt::Files;
-use stripe::{Checked, Params};
+use stripe::Params;
 
 // An image, or a column's file, that a command made or changed in its buffer: the answer, and its length.
 #[derive(Clone, Copy)]
@@ -28,10 +27,10 @@ pub fn nothing() -> Changed
 }
 
 // The answer of a call that changes an image.
-pub fn said(outcome: Outcome) -> Answer {
+pub fn said(outcome: Result<(), Refusal>) -> Answer {
     match outcome {
-        Outcome::Done => Answer::Done,
-        Outcome::Refused(e) => Answer::Refused(e),
+        Ok(()) => Answer::Done,
+        Err(e) => Answer::Refused(e),
     }
 }
 
@@ -39,19 +38,17 @@ pub fn said(outcome: Outcome) -> Answer {
 fn room(p: usize, k: usize, r: usize, b: usize) -> usize
     ensures { result ≤ 1874176 }
 {
-    let checked = Params::checked(p, k, r, b);
-    match checked {
-        Checked::Sound(q) => q.image_length(),
-        Checked::Refused(_) => 0,
+    match Params::checked(p, k, r, b) {
+        Ok(q) => q.image_length(),
+        Err(_) => 0,
     }
 }
 
 // check: which parities are wrong.
 pub fn check(image: &[u8]) -> Answer {
-    let checkup = parity::check(image);
-    match checkup {
-        Checkup::Wrong(w) => Answer::Word(w),
-        Checkup::Refused(e) => Answer::Refused(e),
+    match parity::check(image) {
+        Ok(w) => Answer::Word(w),
+        Err(e) => Answer::Refused(e),
     }
 }
 
@@ -65,7 +62,7 @@ pub fn show(
 ) -> Answer {
     let mut scratch = [0u8; Params::LARGEST_STRIP];
     let outcome = rebuild::restore(image, lost, column, row, &mut scratch);
-    if let Outcome::Refused(e) = outcome {
+    if let Err(e) = outcome {
         return Answer::Refused(e);
     }
     files::check_output(

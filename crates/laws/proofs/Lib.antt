@@ -9,3 +9,4 @@ pub mod Part
 pub mod Patch
 pub mod Rows
 pub mod Number
+pub mod Handed

@@ -10,8 +10,8 @@ ghost use Rattle.parity.specs.Make.{made};
 ghost use Rattle.parity.specs.Answer.{make_sound, make_of, refill_of, wrong_parities, check_of};
 ghost use Rattle.parity.specs.Inner.{wrong_bit, ColumnAsked, Lanes, Starts, ColumnFilled, Room, unset};
 
-use refusal::{Outcome, Refusal};
-use stripe::{Checked, Params, Reading};
+use refusal::Refusal;
+use stripe::Params;
 
 // How many lanes a block has: as many as a walk takes, or less where the strips are not so wide.
 const WIDE: usize = walk::LANES;
@@ -22,13 +22,6 @@ const NARROW: usize = 16;
 
 // The most lanes of a strip that is narrower still: all are one block.
 const THIN: usize = NARROW - 1;
-
-// The word of wrong parities, or the refusal.
-#[derive(Clone, Copy)]
-pub enum Checkup {
-    Wrong(u64),
-    Refused(Refusal),
-}
 
 // Where the block starts that has lane l: at l, or lower where a block from l would end past the strip.
 fn block_from(l: usize, w: usize, b: usize) -> usize
@@ -124,26 +117,20 @@ fn wrong(image: &[u8], q: Params) -> u64
 }
 
 // Sets all parity of an image from its data; other bytes stay.
-pub fn refill(image: &mut [u8]) -> Outcome
+pub fn refill(image: &mut [u8]) -> Result<(), Refusal>
     ensures { Leaves (refill_of image.old) result image.new }
 {
-    let reading = stripe::read(image);
-    let Reading::Stripe(q) = reading else {
-        return Outcome::Refused(reading.refusal());
-    };
+    let q = stripe::read(image)?;
     refill_all(image, q);
-    Outcome::Done
+    Ok(())
 }
 
-// Which parities of an image are wrong.
-pub fn check(image: &[u8]) -> Checkup
+// The word whose bit j is set where parity j of an image is wrong.
+pub fn check(image: &[u8]) -> Result<u64, Refusal>
     ensures { result ≡ check_of image.now }
 {
-    let reading = stripe::read(image);
-    let Reading::Stripe(q) = reading else {
-        return Checkup::Refused(reading.refusal());
-    };
-    Checkup::Wrong(wrong(image, q))
+    let q = stripe::read(image)?;
+    Ok(wrong(image, q))
 }
 
 // Writes an image of data of the right length, revisions 0; its parity is not yet set.
@@ -166,28 +153,31 @@ fn fill(image: &mut [u8], q: Params, given: &[u8])
 }
 
 // The image of data, for parameters that are sound.
-fn make_sound(q: Params, given: &[u8], image: &mut [u8]) -> Outcome
+fn make_sound(q: Params, given: &[u8], image: &mut [u8]) -> Result<(), Refusal>
     requires { Admitted q }
     ensures { Leaves (make_sound given.now image.old q) result image.new }
 {
     let width = q.k * q.column_length();
     if given.len() != width {
-        return Outcome::Refused(Refusal::Width);
+        return Err(Refusal::Width);
     }
     if image.len() != q.image_length() {
-        return Outcome::Refused(Refusal::Room);
+        return Err(Refusal::Room);
     }
     fill(image, q, given);
-    Outcome::Done
+    Ok(())
 }
 
 // Fills the slice with the image of data, revisions 0.
-pub fn make(p: usize, k: usize, r: usize, b: usize, given: &[u8], image: &mut [u8]) -> Outcome
+pub fn make(
+    p: usize,
+    k: usize,
+    r: usize,
+    b: usize,
+    given: &[u8],
+    image: &mut [u8],
+) -> Result<(), Refusal>
     ensures { Leaves (make_of p k r b given.now image.old) result image.new }
 {
-    let checked = Params::checked(p, k, r, b);
-    match checked {
-        Checked::Sound(q) => make_sound(q, given, image),
-        Checked::Refused(e) => Outcome::Refused(e),
-    }
+    make_sound(Params::checked(p, k, r, b)?, given, image)
 }

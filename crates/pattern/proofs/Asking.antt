@@ -15,6 +15,7 @@ use lib.Pow.{pow_pos, split}
 use lib.Seq.{length-take-le}
 use borrow.Author.Tests.{eq-eqb, eqb-true, le-leb, le-ltb, leb-true, lt-leb, lt-ltb, ltb-true, ne_eqb}
 use Rattle.laws.proofs.Choose.{T_true, below_at, and_left, and_right, choose_yes, true_T}
+use Rattle.std.specs.Prelude.{Result, Ok, Err}
 use Rattle.laws.specs.Bit.{bit, weight}
 use Rattle.laws.specs.Choose.{below}
 use Rattle.ring.proofs.Elements.{ones_below}
@@ -25,8 +26,6 @@ use Rattle.stripe.specs.Reading.{Image, read_of}
 use Rattle.refusal.specs.declared.Refusal.{Refusal}
 use Rattle.refusal.specs.declared.Refusal.TheVariants.{Column, Row, Many, Room}
 use Rattle.stripe.specs.declared.Params.{Params}
-use Rattle.stripe.specs.declared.Reading.{Reading}
-use Rattle.stripe.specs.declared.Reading.TheVariants.{Stripe, Refused as Unread}
 use Rattle.pattern.specs.Pattern.{asked, asked_read, few_lost, pattern_fits, is_lost}
 use Rattle.pattern.specs.Inner.{Cell}
 
@@ -71,10 +70,10 @@ module _ (q : Params) (m n c : ℕ) (x : Bool) (g : x ≡ pattern_fits q m) wher
 pub ruleset within_tested = (within_not, within_is)
 
 module _ (q : Params) (m n t room : ℕ) (x : Bool) (g : x ≡ (pattern_fits q m && ltb n (q.k + q.r))) where
-  abbrev pub due : Reading
-  due = asked_read m n t room (Stripe q)
+  abbrev pub due : Result Params Refusal
+  due = asked_read m n t room (Ok q)
 
-  pub ask_column : x ≡ false → Unread Column ≡ due
+  pub ask_column : x ≡ false → Err Column ≡ due
   unfolding asked_read
   ask_column h = simp (sym g ∙ h)
 
@@ -82,38 +81,38 @@ module _ (q : Params) (m n t room : ℕ) (x : Bool) (g : x ≡ (pattern_fits q m
     within : (pattern_fits q m && ltb n (q.k + q.r)) ≡ true
     within = sym g ∙ h
 
-    pub ask_row : q.p - 1 ≤ t → Unread Row ≡ due
+    pub ask_row : q.p - 1 ≤ t → Err Row ≡ due
     unfolding asked_read
     ask_row k = simp (within, le-ltb t (rows q) k)
 
     module _ (k : t < q.p - 1) (y : Bool) (i : y ≡ few_lost q m) where
-      pub ask_many : y ≡ false → Unread Many ≡ due
+      pub ask_many : y ≡ false → Err Many ≡ due
       unfolding asked_read
       ask_many j = simp (within, lt-ltb t (rows q) k, sym i ∙ j)
 
       module _ (j : y ≡ true) where
-        pub ask_room : room < q.b → Unread Room ≡ due
+        pub ask_room : room < q.b → Err Room ≡ due
         unfolding asked_read
         ask_room z = simp (within, lt-ltb t (rows q) k, sym i ∙ j, lt-leb q.b room z)
 
-        pub ask_sound : q.b ≤ room → Stripe q ≡ due
+        pub ask_sound : q.b ≤ room → Ok q ≡ due
         unfolding asked_read
         ask_sound z = simp (within, lt-ltb t (rows q) k, sym i ∙ j, le-leb q.b room z)
 
 pub ruleset asks = (ask_column, ask_row, ask_many, ask_room, ask_sound)
 
-module _ (s : List ℕ) (m n t room : ℕ) (v : Reading) (e : v ≡ read_of s) where
-  pub ask_unread : (x : Refusal) → v ≡ Unread x → v ≡ asked s m n t room
+module _ (s : List ℕ) (m n t room : ℕ) (v : Result Params Refusal) (e : v ≡ read_of s) where
+  pub ask_unread : (x : Refusal) (w : Result Params Refusal) → v ≡ Err x → w ≡ Err x → w ≡ asked s m n t room
   unfolding asked asked_read
-  ask_unread x f = f ∙ ap (asked_read m n t room) (sym f ∙ e)
+  ask_unread x w f g = g ∙ ap (asked_read m n t room) (sym f ∙ e)
 
-  pub ask_read : (q : Params) (w : Reading) → v ≡ Stripe q → w ≡ asked_read m n t room (Stripe q) → w ≡ asked s m n t room
+  pub ask_read : (q : Params) (w : Result Params Refusal) → v ≡ Ok q → w ≡ asked_read m n t room (Ok q) → w ≡ asked s m n t room
   unfolding asked
   ask_read q w f g = g ∙ ap (asked_read m n t room) (sym f ∙ e)
 
 -- ---- an image that was read
 
-module _ (s : List ℕ) (w : Reading) (e : w ≡ read_of s) (q : Params) (f : w ≡ Stripe q) where
+module _ (s : List ℕ) (w : Result Params Refusal) (e : w ≡ read_of s) (q : Params) (f : w ≡ Ok q) where
   pub read_admitted : Admitted q
   read_admitted = (read_image s q w e f).admitted
 
@@ -127,12 +126,12 @@ pub record Sound (s : List ℕ) (q : Params) (m n t room : ℕ) : Type 0 where
   pub few : few_lost q m ≡ true
   pub space : q.b ≤ room
 
-not_unread : (q : Params) (w : Reading) → w ≡ Stripe q → (n : Refusal) → w ≡ Unread n → ⊥
+not_unread : (q : Params) (w : Result Params Refusal) → w ≡ Ok q → (n : Refusal) → w ≡ Err n → ⊥
 not_unread q w e n f = let z : ◌≡◌ {A = ℕ} 0 1 = cc in omega arith
 
-sound_read : (s : List ℕ) (q : Params) (m n t room : ℕ) (v w : Reading) → v ≡ read_of s → w ≡ asked_read m n t room v → w ≡ Stripe q → Sound s q m n t room
+sound_read : (s : List ℕ) (q : Params) (m n t room : ℕ) (v w : Result Params Refusal) → v ≡ read_of s → w ≡ asked_read m n t room v → w ≡ Ok q → Sound s q m n t room
 unfolding asked_read
-sound_read s q m n t room (Stripe h) w d e f =
+sound_read s q m n t room (Ok h) w d e f =
     let o = not_unread q w f in
     let a = choose_yes (pattern_fits h m && ltb n (h.k + h.r)) _ _ w (o Column) e in
     let b = choose_yes (ltb t (rows h)) _ _ w (o Row) a.1 in
@@ -141,16 +140,16 @@ sound_read s q m n t room (Stripe h) w d e f =
     let i : q ≡ h = cc in
     let x = true_T _ a.0 in
     rw i (record {
-      image = read_image s h (Stripe h) d refl;
+      image = read_image s h (Ok h) d refl;
       fits = T_true _ (and_left (pattern_fits h m) _ x);
       column = ltb→lt n (h.k + h.r) (and_right (pattern_fits h m) _ x);
       row = ltb-true t (rows h) b.0;
       few = c.0;
       space = leb-true h.b room g.0;
     })
-sound_read s q m n t room (Unread x) w d e f = absurd (not_unread q w f x e)
+sound_read s q m n t room (Err x) w d e f = absurd (not_unread q w f x e)
 
-module _ (s : List ℕ) (m n t room : ℕ) (w : Reading) (e : w ≡ asked s m n t room) (q : Params) (f : w ≡ Stripe q) where
+module _ (s : List ℕ) (m n t room : ℕ) (w : Result Params Refusal) (e : w ≡ asked s m n t room) (q : Params) (f : w ≡ Ok q) where
   pub asked_sound : Sound s q m n t room
   unfolding asked
   asked_sound = sound_read s q m n t room (read_of s) w refl e f

@@ -1,16 +1,15 @@
 -- "Lost columns": what a pattern names, which columns are consulted, and what is refused.
 -- Assumes nothing.
-use Rattle.std.specs.Prelude.{ℕ, ◌+◌, ◌^◌, Bool, ◌&&◌, List, eqb, ltb, leb, take}
+use Rattle.std.specs.Prelude.{ℕ, ◌+◌, ◌^◌, Bool, ◌&&◌, List, eqb, ltb, leb, take, Result, Ok, Err}
 use Rattle.laws.specs.Choose.{choose}
 use Rattle.laws.specs.Bit.{bit, weight}
 use Rattle.laws.specs.Part.{table}
 use Rattle.algebra.specs.Recovery.{lost, kept}
 use Rattle.refusal.specs.declared.Refusal.TheVariants.{Column, Row, Many, Room}
 use Rattle.stripe.specs.declared.Params.{Params}
-use Rattle.stripe.specs.declared.Reading.{Reading}
-use Rattle.stripe.specs.declared.Reading.TheVariants.{Stripe, Refused as Unread}
 use Rattle.stripe.specs.Layout.{rows}
 use Rattle.stripe.specs.Reading.{read_of}
+use Rattle.refusal.specs.declared.Refusal.{Refusal}
 
 -- "a 64-bit pattern, bit n for lost column n"
 abbrev pub is_lost : ℕ → ℕ → Bool
@@ -50,12 +49,12 @@ unfoldable pub few_lost : Params → ℕ → Bool
 few_lost q m = leb (weight m (q.k + q.r)) q.r
 
 -- "Restore one strip and show: pattern, column, row, scratch. Order for both: reading, COLUMN, ROW, MANY, ROOM.": the parameters where all is sound
-unfoldable pub asked_read : ℕ → ℕ → ℕ → ℕ → Reading → Reading
-asked_read m n t room (Stripe q) =
+unfoldable pub asked_read : ℕ → ℕ → ℕ → ℕ → Result Params Refusal → Result Params Refusal
+asked_read m n t room (Ok q) =
     choose (pattern_fits q m && ltb n (q.k + q.r))
-    (choose (ltb t (rows q)) (choose (few_lost q m) (choose (leb q.b room) (Stripe q) (Unread Room)) (Unread Many)) (Unread Row))
-    (Unread Column)
-asked_read m n t room (Unread e) = Unread e
+    (choose (ltb t (rows q)) (choose (few_lost q m) (choose (leb q.b room) (Ok q) (Err Room)) (Err Many)) (Err Row))
+    (Err Column)
+asked_read m n t room (Err e) = Err e
 
-unfoldable pub asked : List ℕ → ℕ → ℕ → ℕ → ℕ → Reading
+unfoldable pub asked : List ℕ → ℕ → ℕ → ℕ → ℕ → Result Params Refusal
 asked s m n t room = asked_read m n t room (read_of s)

@@ -1,16 +1,15 @@
 // The pattern of lost columns: what it names, what is refused for it, and the columns that lost ones are found from.
 #![tactic(auto)]
 
-ghost use Rattle.std.specs.Prelude.{◌≡◌, ◌+◌, ◌<◌, ◌≤◌, true, ◌&&◌, ltb, eqb, length, replicate, take};
+ghost use Rattle.std.specs.Prelude.{◌≡◌, ◌+◌, ◌<◌, ◌≤◌, true, ◌&&◌, ltb, eqb, length, replicate, take, Ok};
 ghost use Rattle.laws.specs.Choose.{choose};
 ghost use Rattle.laws.specs.Bit.{bit, weight};
 ghost use Rattle.stripe.specs.Params.{Admitted};
-ghost use Rattle.stripe.specs.declared.Reading.TheVariants.{Stripe};
 ghost use Rattle.pattern.specs.Pattern.{is_lost, lost_exponents, present_exponents, consulted, pattern_fits, few_lost, asked_read, asked};
 ghost use Rattle.pattern.specs.Inner.{named, Single};
 
 use refusal::Refusal;
-use stripe::{Params, Reading};
+use stripe::Params;
 
 // Whether the pattern names column n.
 #[tactic(auto, using(crate::proofs::Asking::lost_tested))]
@@ -66,34 +65,42 @@ pub fn is_few(q: Params, lost: u64) -> bool
 }
 
 // The parameters where strip (column, row) may be asked for with a scratch of `room` bytes, or the refusal that is due.
-fn ask_within(q: Params, lost: u64, column: usize, row: usize, room: usize) -> Reading
+fn ask_within(
+    q: Params,
+    lost: u64,
+    column: usize,
+    row: usize,
+    room: usize,
+) -> Result<Params, Refusal>
     requires { Admitted q }
-    ensures { result ≡ asked_read lost column row room (Stripe q) }
+    ensures { result ≡ asked_read lost column row room (Ok q) }
 {
     if !is_within(q, lost, column) {
-        return Reading::Refused(Refusal::Column);
+        return Err(Refusal::Column);
     }
     if row >= q.p - 1 {
-        return Reading::Refused(Refusal::Row);
+        return Err(Refusal::Row);
     }
     if !is_few(q, lost) {
-        return Reading::Refused(Refusal::Many);
+        return Err(Refusal::Many);
     }
     if room < q.b {
-        return Reading::Refused(Refusal::Room);
+        return Err(Refusal::Room);
     }
-    Reading::Stripe(q)
+    Ok(q)
 }
 
 // The same of an image that is read first.
-pub fn ask(image: &[u8], lost: u64, column: usize, row: usize, room: usize) -> Reading
+pub fn ask(
+    image: &[u8],
+    lost: u64,
+    column: usize,
+    row: usize,
+    room: usize,
+) -> Result<Params, Refusal>
     ensures { result ≡ asked image.now lost column row room }
 {
-    let reading = stripe::read(image);
-    let Reading::Stripe(q) = reading else {
-        return reading;
-    };
-    ask_within(q, lost, column, row, room)
+    ask_within(stripe::read(image)?, lost, column, row, room)
 }
 
 // Room for an exponent, or a place, for each of a stripe's data columns, all 0.

@@ -9,13 +9,13 @@ use native.Mathlib.Omega.{arith}
 use lib.Dec.{eqb, ltb}
 use lib.ListN.{length, get_or}
 use lib.Seq.{ext_get_or}
+use Rattle.std.specs.Prelude.{Result, Ok, Err}
 use Rattle.laws.proofs.Choose.{T_true}
 use Rattle.laws.specs.Choose.{choose}
 use Rattle.laws.specs.Left.{Left}
 use Rattle.stripe.proofs.Frame.{image_read}
 use Rattle.stripe.specs.Layout.{rows, revision_at, data_from, revision_of, data_byte, parity_byte}
 use Rattle.stripe.specs.Reading.{Image, read_of}
-use Rattle.stripe.specs.declared.Reading.TheVariants.{Stripe}
 use Rattle.stripe.specs.declared.Params.{Params}
 use Rattle.block.specs.Parity.{Right}
 use Rattle.block.specs.Touches.{count}
@@ -26,8 +26,6 @@ use Rattle.rebuild.specs.Agrees.{AgreesOutside}
 use Rattle.rebuild.specs.Lost.{rebuilt, whole_data}
 use Rattle.revision.specs.Revision.{judged, renewed, is_current}
 use Rattle.revision.specs.declared.Age.{Age}
-use Rattle.write.specs.declared.Written.{Written}
-use Rattle.write.specs.declared.Written.TheVariants.{Accepted, Aged}
 use Rattle.write.specs.Written.{written}
 use Rattle.present.specs.Present.{present_count}
 use Rattle.away.proofs.Agreeing.{away_stays, written_agrees}
@@ -52,6 +50,9 @@ use Rattle.promises.proofs.Writes.{counting, rules, aged, replied, case, case_to
 use Rattle.promises.specs.Away.{write_away, told_away, left_away, answers_away, last_away, Complete, Completed, recounted, AsIf, Demand3Away}
 use Rattle.promises.specs.Demand2.{Pattern}
 use Rattle.promises.specs.Demand3.{Answer, answer_of, is_accepted, told, left, answers, last_image, RevisionBytes, ExactlyRefused, EachRefusedExactly, Demand3}
+use Rattle.write.specs.declared.Accepted.{Accepted}
+use Rattle.write.specs.declared.Refused.{Refused}
+use Rattle.write.specs.declared.Refused.TheVariants.{Aged}
 
 -- ---- lists
 
@@ -126,8 +127,8 @@ module _ (q : Params) (m : ℕ) (w : Write) where
   recounted_aged g = go (is_current g) refl
     where
       go : (b : Bool) → is_current g ≡ b
-          → answer_of (choose b (Accepted (renewed w.base) (present_count q m w.column w.row)) (Aged g))
-          ≡ recounted q m w (answer_of (choose b (Accepted (renewed w.base) (count q w.column w.row)) (Aged g)))
+          → answer_of (choose b (Ok (record { revision = renewed w.base; count = present_count q m w.column w.row })) (Err (Aged g)))
+          ≡ recounted q m w (answer_of (choose b (Ok (record { revision = renewed w.base; count = count q w.column w.row })) (Err (Aged g))))
       go true e = refl
       go false e = rw e
 
@@ -164,11 +165,11 @@ module _ (q : Params) (m : ℕ) (w : Write) where
 
     told_away_is : told_away m s w ≡ reply R (revision_of s w.column) w
     unfolding answer keyed
-    told_away_is = ap (λ (l : Left Written). answer_of l.answer) found ∙ case_told s q w (present_count q m) new
+    told_away_is = ap (λ (l : Left (Result Accepted Refused)). answer_of l.answer) found ∙ case_told s q w (present_count q m) new
 
     pub left_away_is : left_away m s w ≡ choose (accepts (rules q) (revision_of s w.column) w) new s
     left_away_is =
-        ap (λ (l : Left Written). l.image) found ∙ case_left s q w (present_count q m) new
+        ap (λ (l : Left (Result Accepted Refused)). l.image) found ∙ case_left s q w (present_count q m) new
         ∙ ap (λ (b : Bool). choose b new s) (accepts_alike (revision_of s w.column))
 
   module _ (P : Pattern q m) (z s : List ℕ) (Z : Image z q) (g : AgreesOutside z s q m) where
@@ -227,7 +228,7 @@ module _ (q : Params) (m : ℕ) (w : Write) where
     left_agrees r = left_agrees_by (λ i t x hi ht hx. sym (whole_data_agrees z s q m g x hx i t hi ht) ∙ whole_data_right z q m Z r P.few i t x hi ht hx)
 
 -- of any accepted image: present columns end as if the write had been made on the image that rebuild gives
-pub as_if_rebuilt : (s : List ℕ) (q : Params) (m : ℕ) → Pattern q m → read_of s ≡ Stripe q → (w : Write) → AgreesOutside (left (rebuilt s q m) w) (left_away m s w) q m
+pub as_if_rebuilt : (s : List ℕ) (q : Params) (m : ℕ) → Pattern q m → read_of s ≡ Ok q → (w : Write) → AgreesOutside (left (rebuilt s q m) w) (left_away m s w) q m
 as_if_rebuilt s q m P reads w =
     let I : Image s q = reads_image s q reads in
     left_agrees_by q m w P (rebuilt s q m) s (rebuilt_image s q m I) (agrees_sym s (rebuilt s q m) q m (rebuilt_keeps s q m I))

@@ -7,10 +7,10 @@ use mathlib.Core.Path.{◌≡◌, refl, sym, ap, ap₂, subst, ◌∙◌}
 use native.Mathlib.Omega.{arith}
 use lib.Dec.{eqb, ltb}
 use lib.ListN.{length}
+use Rattle.std.specs.Prelude.{Ok, Err}
 use Rattle.laws.specs.Choose.{choose}
 use Rattle.stripe.specs.Layout.{rows, revision_of}
 use Rattle.stripe.specs.Reading.{Image, read_of}
-use Rattle.stripe.specs.declared.Reading.TheVariants.{Stripe}
 use Rattle.stripe.specs.declared.Params.{Params}
 use Rattle.block.specs.Touches.{count}
 use Rattle.rebuild.proofs.Independent.{agrees_image, rebuilt_keeps}
@@ -20,7 +20,6 @@ use Rattle.revision.proofs.Circle.{judged_current, older_exactly, age_told}
 use Rattle.revision.specs.Revision.{judged, renewed, is_current, age_number, age_distance, DistanceTold}
 use Rattle.revision.specs.declared.Age.{Age}
 use Rattle.revision.specs.declared.Age.TheVariants.{Older}
-use Rattle.write.specs.declared.Written.TheVariants.{Accepted, Aged}
 use Rattle.store.proofs.Carry.{sound_column}
 use Rattle.store.proofs.Keyed.{accepts_sound}
 use Rattle.store.proofs.Lists.{true_eqb, true_ltb}
@@ -39,6 +38,7 @@ use Rattle.promises.specs.Away.{told_away, left_away, answers_away, last_away, r
 use Rattle.promises.specs.Behind.{SaysDistance, accepted_to, Bases, none, one_more, notes_behind, ThreeNotesBehind}
 use Rattle.promises.specs.Demand2.{Pattern}
 use Rattle.promises.specs.Demand3.{Answer, answer_of, is_accepted, told, left, answers, last_image, RevisionBytes, Sound}
+use Rattle.write.specs.declared.Refused.TheVariants.{Aged}
 
 -- ---- what the distance says
 
@@ -52,7 +52,7 @@ module _ (w : Write) (n : ℕ) (c : ℕ → ℕ → ℕ) (hb : w.base < 2 ^ 32) 
   }
 
   says_aged : n < 2 ^ 32 → (x : Bool)
-      → let a = answer_of (choose x (Accepted (renewed w.base) (c w.column w.row)) (Aged (judged n w.base))) in DistanceTold n w.base a.refusal a.distance
+      → let a = answer_of (choose x (Ok (record { revision = renewed w.base; count = c w.column w.row })) (Err (Aged (judged n w.base)))) in DistanceTold n w.base a.refusal a.distance
   says_aged hn true = no_distance 0 (omega arith)
   says_aged hn false = age_told n w.base hn hb
 
@@ -63,7 +63,7 @@ module _ (w : Write) (n : ℕ) (c : ℕ → ℕ → ℕ) (hb : w.base < 2 ^ 32) 
   says false y z hn = no_distance 8 (omega arith)
 
 -- "The revision comparison now answers with the distance as well", and "Write .. hand[s] it on"
-pub distance_told : (s : List ℕ) (q : Params) (w : Write) → read_of s ≡ Stripe q → RevisionBytes s q → w.base < 2 ^ 32 → SaysDistance s w (told s w)
+pub distance_told : (s : List ℕ) (q : Params) (w : Write) → read_of s ≡ Ok q → RevisionBytes s q → w.base < 2 ^ 32 → SaysDistance s w (told s w)
 unfolding answer reply sound keyed
 distance_told s q w i b h =
     subst (SaysDistance s w) (sym (told_is s q w (reads_image s q i)))
@@ -71,7 +71,7 @@ distance_told s q w i b h =
     (λ e. bytes_revision s q b w.column (true_ltb w.column q.k e)))
 
 -- "and the degraded write"
-pub distance_told_away : (s : List ℕ) (q : Params) (m : ℕ) (w : Write) → Pattern q m → read_of s ≡ Stripe q → RevisionBytes s q → w.base < 2 ^ 32
+pub distance_told_away : (s : List ℕ) (q : Params) (m : ℕ) (w : Write) → Pattern q m → read_of s ≡ Ok q → RevisionBytes s q → w.base < 2 ^ 32
     → SaysDistance s w (told_away m s w)
 unfolding recounted
 distance_told_away s q m w P i b h = subst (SaysDistance s w) (sym (told_alike q m w P s s (reads_image s q i) (agrees_refl s q m))) (distance_told s q w i b h)
@@ -166,7 +166,7 @@ module _ (q : Params) (i : ℕ) (hi : i < q.k) (s : List ℕ) (w : Write) (g : R
       ∙ ap (λ (a : Answer). choose (is_accepted a && eqb w.column i) (renewed (revision_of s i)) (revision_of s i)) (sym (told_is s q w g.accepted))
 
 -- "three notes behind": n writes to column i were accepted since its revision was the base, n from 1 to 2^31 - 1
-pub three_notes_behind : (s : List ℕ) (q : Params) → read_of s ≡ Stripe q → RevisionBytes s q → (es : List Entry) → Bases es → (i : ℕ) → i < q.k
+pub three_notes_behind : (s : List ℕ) (q : Params) → read_of s ≡ Ok q → RevisionBytes s q → (es : List Entry) → Bases es → (i : ℕ) → i < q.k
     → let n = accepted_to i (answers s es) in 1 ≤ n → n ≤ 2 ^ 31 - 1 → ThreeNotesBehind told (last_image s es) q i (revision_of s i) n
 three_notes_behind s q I b es hs i hi l k =
     let g : Readable q s = record { accepted = reads_image s q I; small = b } in
@@ -213,7 +213,7 @@ away_moves q m P i hi s w g hb =
     (sym (revisions_alike (rebuilt s q m) s q m (z_agrees q m P s w g) i hi))
 
 -- the same, with one sound pattern for the whole list
-pub three_notes_behind_away : (s : List ℕ) (q : Params) (m : ℕ) → Pattern q m → read_of s ≡ Stripe q → RevisionBytes s q → (es : List Entry) → Bases es → (i : ℕ) → i < q.k
+pub three_notes_behind_away : (s : List ℕ) (q : Params) (m : ℕ) → Pattern q m → read_of s ≡ Ok q → RevisionBytes s q → (es : List Entry) → Bases es → (i : ℕ) → i < q.k
     → let n = accepted_to i (answers_away m s es) in 1 ≤ n → n ≤ 2 ^ 31 - 1 → ThreeNotesBehind (told_away m) (last_away m s es) q i (revision_of s i) n
 unfolding recounted
 three_notes_behind_away s q m P I b es hs i hi l k =

@@ -9,6 +9,7 @@ use native.Mathlib.Omega.{arith}
 use lib.Dec.{T, eqb, eqb→eq}
 use lib.ListN.{length}
 use borrow.Author.Tests.{eq-eqb}
+use Rattle.std.specs.Prelude.{Ok}
 use Rattle.laws.proofs.Bit.{bit_digit}
 use Rattle.laws.proofs.Choose.{at_below, below_at, true_T, T_true}
 use Rattle.laws.proofs.Sum.{cancel}
@@ -19,12 +20,11 @@ use Rattle.laws.specs.Sum.{total, pick}
 use Rattle.laws.specs.Xor.{◌⊕◌}
 use Rattle.stripe.specs.Layout.{rows, parity_byte, data_byte}
 use Rattle.stripe.specs.Reading.{Image, read_of}
-use Rattle.stripe.specs.declared.Reading.TheVariants.{Stripe}
 use Rattle.stripe.specs.declared.Params.{Params}
 use Rattle.block.specs.Parity.{Right, due}
 use Rattle.block.specs.Touches.{touches, touch_word, count}
 use Rattle.away.specs.Away.{away_difference, away_written}
-use Rattle.write.proofs.Accepted.{present_parity, written_parity}
+use Rattle.write.proofs.After.{present_parity, written_parity}
 use Rattle.present.specs.Present.{present_word, present_count}
 use Rattle.write.specs.Written.{written, difference}
 use Rattle.store.specs.Image.{image_last}
@@ -107,10 +107,10 @@ away_changed s q m i t b v I hi ht hv =
 abbrev alone : Write → List Entry
 alone w = record { number = 0; write = w } ∷ []
 
-one_write : (s : List ℕ) (q : Params) → read_of s ≡ Stripe q → RevisionBytes s q → (w : Write) → Demand3 s q (alone w) (alone w)
+one_write : (s : List ℕ) (q : Params) → read_of s ≡ Ok q → RevisionBytes s q → (w : Write) → Demand3 s q (alone w) (alone w)
 one_write s q i b w = demand_3_of s q i b (alone w)
 
-module _ (s : List ℕ) (q : Params) (i : read_of s ≡ Stripe q) (b : RevisionBytes s q) (w : Write) where
+module _ (s : List ℕ) (q : Params) (i : read_of s ≡ Ok q) (b : RevisionBytes s q) (w : Write) where
   -- an accepted write on a right image leaves a right image
   pub write_keeps_right : Right s q → Right (left s w) q
   unfolding image_last

@@ -8,6 +8,7 @@ use native.Mathlib.Omega.{arith}
 use lib.Dec.{eqb, ltb}
 use lib.ListN.{length, get_or}
 use borrow.Author.Tests.{lt-ltb, le-leb, eq-eqb}
+use Rattle.std.specs.Prelude.{Result, Ok, Err}
 use Rattle.laws.proofs.Bit.{pack_lt, bit_pack}
 use Rattle.laws.proofs.Choose.{true_T}
 use Rattle.laws.proofs.Part.{get_or_part}
@@ -16,31 +17,21 @@ use Rattle.laws.proofs.Tab.{get_or_tab}
 use Rattle.laws.specs.Bit.{weight}
 use Rattle.laws.specs.Choose.{choose}
 use Rattle.laws.specs.Left.{Left}
-use Rattle.refusal.specs.declared.Outcome.{Outcome}
-use Rattle.refusal.specs.declared.Outcome.TheVariants.{Done, Refused as Unwritten}
 use Rattle.refusal.specs.declared.Refusal.TheVariants.{Column, Room}
 use Rattle.stripe.proofs.Images.{image_of_image, length_image_of, of_opening, of_revisions, of_third, of_columns, of_fourth, of_parities, length_columns_in, length_parities_in}
 use Rattle.stripe.specs.Layout.{rows, column_length, data_from, data_byte, strip_at, parity_count_at, parity_from, parity_byte, parity_strip_at, image_length}
 use Rattle.stripe.specs.Reading.{Image, read_of}
 use Rattle.stripe.specs.Sections.{columns_in, parities_in}
 use Rattle.stripe.specs.declared.Params.{Params}
-use Rattle.stripe.specs.declared.Reading.{Reading}
-use Rattle.stripe.specs.declared.Reading.TheVariants.{Stripe, Refused as Unread}
 use Rattle.block.proofs.Touching.{due_agree}
 use Rattle.block.specs.Parity.{Right}
 use Rattle.pattern.specs.Pattern.{pattern_fits, few_lost, is_lost}
-use Rattle.parity.specs.Answer.{outcome_number}
 use Rattle.rebuild.specs.Agrees.{AgreesOutside}
 use Rattle.rebuild.specs.Answer.{rebuild_of}
 use Rattle.column_file.specs.File.{file_length, file_of}
 use Rattle.file_by_file.specs.Files.{first_params, met_from}
-use Rattle.file_by_file.specs.declared.Met.{Met}
-use Rattle.file_by_file.specs.declared.Met.TheVariants.{Columns, Refused as Unmet}
-use Rattle.columns.specs.declared.Imported.{Imported}
-use Rattle.columns.specs.declared.Imported.TheVariants.{Absent}
-use Rattle.columns.specs.declared.Measured.TheVariants.{Bytes, Refused as Unmeasured}
-use Rattle.columns.specs.Export.{export_sound, export_read, export_of, file_length_sound, file_length_read, file_length_of, measured_value}
-use Rattle.columns.specs.Import.{import_sound, import_met, import_of, files_length_met, files_length_of, imported_number, imported_value}
+use Rattle.columns.specs.Export.{export_sound, export_read, export_of, file_length_sound, file_length_read, file_length_of}
+use Rattle.columns.specs.Import.{import_sound, import_met, import_of, files_length_met, files_length_of}
 use Rattle.columns.proofs.Round.{export_done, import_exported, import_all, only_image, length_only_revisions, length_only_columns, length_only_parities}
 use Rattle.filling.proofs.Spots.{Kind, heads, revisions, third, columns, fourth, parities, kind, row_is}
 use Rattle.columns.specs.Only.{among, only_revisions, only_columns, only_parities, only, all_strips, others}
@@ -48,6 +39,8 @@ use Rattle.promises.proofs.Accepted.{reads_image, image_reads}
 use Rattle.promises.proofs.Demand2.{comes, demand_2}
 use Rattle.promises.specs.Columns.{Fills, ColumnFiles}
 use Rattle.promises.specs.Demand2.{Pattern, ComesTo}
+use Rattle.refusal.specs.declared.Refusal.{Refusal}
+use Rattle.refusal.specs.Number.{answer_number, answer_value}
 
 -- ---- every strip of an image, and the revisions of some columns
 
@@ -170,43 +163,43 @@ module _ (s : List ℕ) (q : Params) (ns : List ℕ) (i : Image s q) where
 -- ---- the lengths to lend
 
 module _ (s : List ℕ) (n m : ℕ) (t : List ℕ) (l : length t ≡ m) where
-  room_for_file : file_length_of s n ≡ Bytes m → outcome_number (export_of s n t).answer ≡ 0
+  room_for_file : file_length_of s n ≡ Ok m → answer_number (export_of s n t).answer ≡ 0
   unfolding file_length_of export_of file_length_read export_read file_length_sound export_sound
   room_for_file e = go (read_of s) e
     where
-      told : (q : Params) → Bool → Left Outcome
+      told : (q : Params) → Bool → Left (Result (Unit {0}) Refusal)
       told q b =
-          choose b (choose (eqb (length t) (file_length q n)) (record { answer = Done; image = file_of s q n }) (record { answer = Unwritten Room; image = t }))
-          (record { answer = Unwritten Column; image = t })
+          choose b (choose (eqb (length t) (file_length q n)) (record { answer = Ok tt; image = file_of s q n }) (record { answer = Err Room; image = t }))
+          (record { answer = Err Column; image = t })
 
-      at_column : (q : Params) (b : Bool) → choose b (Bytes (file_length q n)) (Unmeasured Column) ≡ Bytes m → outcome_number (told q b).answer ≡ 0
-      at_column q true f = let z : m ≡ file_length q n = sym (ap measured_value f) in rw (eq-eqb (length t) (file_length q n) (l ∙ z)) refl
+      at_column : (q : Params) (b : Bool) → choose b (Ok (file_length q n)) (Err Column) ≡ Ok m → answer_number (told q b).answer ≡ 0
+      at_column q true f = let z : m ≡ file_length q n = sym (ap answer_value f) in rw (eq-eqb (length t) (file_length q n) (l ∙ z)) refl
       at_column q false f = let y : ◌≡◌ {A = ℕ} 0 1 = cc in absurd (omega arith)
 
-      go : (w : Reading) → file_length_read n w ≡ Bytes m → outcome_number (export_read s n t w).answer ≡ 0
-      go (Stripe q) f = at_column q (ltb n (q.k + q.r)) f
-      go (Unread x) f = let y : ◌≡◌ {A = ℕ} 0 1 = cc in absurd (omega arith)
+      go : (w : Result Params Refusal) → file_length_read n w ≡ Ok m → answer_number (export_read s n t w).answer ≡ 0
+      go (Ok q) f = at_column q (ltb n (q.k + q.r)) f
+      go (Err x) f = let y : ◌≡◌ {A = ℕ} 0 1 = cc in absurd (omega arith)
 
-room_for_image : (f : List ℕ) (m : ℕ) (t : List ℕ) → files_length_of f ≡ Bytes m → length t ≡ m → imported_number (import_of f t).answer ≡ 0
+room_for_image : (f : List ℕ) (m : ℕ) (t : List ℕ) → files_length_of f ≡ Ok m → length t ≡ m → answer_number (import_of f t).answer ≡ 0
 unfolding files_length_of import_of files_length_met import_met import_sound
 room_for_image f m t e l = go (met_from f 0 0) e
   where
-    go : (w : Met) → files_length_met f w ≡ Bytes m → imported_number (import_met f t w).answer ≡ 0
-    go (Columns k) z = let y : m ≡ image_length (first_params f) = sym (ap measured_value z) in rw (eq-eqb (length t) (image_length (first_params f)) (l ∙ y)) refl
-    go (Unmet x) z = let y : ◌≡◌ {A = ℕ} 0 1 = cc in absurd (omega arith)
+    go : (w : Result ℕ Refusal) → files_length_met f w ≡ Ok m → answer_number (import_met f t w).answer ≡ 0
+    go (Ok k) z = let y : m ≡ image_length (first_params f) = sym (ap answer_value z) in rw (eq-eqb (length t) (image_length (first_params f)) (l ∙ y)) refl
+    go (Err x) z = let y : ◌≡◌ {A = ℕ} 0 1 = cc in absurd (omega arith)
 
 -- ---- the theorem
 
-fills : {p : ℕ} {z : List ℕ} (l : Left Imported) → l ≡ record { answer = Absent p; image = z } → Fills l p z
+fills : {p : ℕ} {z : List ℕ} (l : Left (Result ℕ Refusal)) → l ≡ record { answer = Ok p; image = z } → Fills l p z
 fills l e = record {
-  answered = ap (λ (x : Left Imported). imported_number x.answer) e;
-  absent = ap (λ (x : Left Imported). imported_value x.answer) e;
-  left = ap (λ (x : Left Imported). x.image) e;
+  answered = ap (λ (x : Left (Result ℕ Refusal)). answer_number x.answer) e;
+  absent = ap (λ (x : Left (Result ℕ Refusal)). answer_value x.answer) e;
+  left = ap (λ (x : Left (Result ℕ Refusal)). x.image) e;
 }
 
 pub column_files : ColumnFiles
 column_files = record {
-  exports = λ s q n t reads h l. comes Done (export_done s q (reads_image s q reads) n t h l);
+  exports = λ s q n t reads h l. comes (Ok tt) (export_done s q (reads_image s q reads) n t h l);
   imports = λ s q n ns t reads L l. fills _ (import_exported s q (reads_image s q reads) n ns t L l);
   reads = λ s q ns reads. image_reads (only s q ns) q (only_image s q ns (reads_image s q reads).admitted);
   gives_back = λ s q n ns t reads small L all l. fills _ (import_all s q (reads_image s q reads) small n ns t L all l);

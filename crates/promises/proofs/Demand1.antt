@@ -10,6 +10,7 @@ use native.Mathlib.Omega.{arith}
 use borrow.Author.Tests.{lt-ltb, le-ltb, le-leb, ne_eqb}
 use lib.Dec.{eqb, ltb, leb}
 use lib.ListN.{length}
+use Rattle.std.specs.Prelude.{Ok, Err, Result}
 use Rattle.laws.specs.Bit.{bit}
 use Rattle.laws.specs.Choose.{choose}
 use Rattle.laws.specs.Left.{Left}
@@ -18,18 +19,12 @@ use Rattle.laws.specs.Xor.{◌⊕◌}
 use Rattle.algebra.specs.Word.{element}
 use Rattle.refusal.specs.declared.Refusal.{Refusal}
 use Rattle.refusal.specs.declared.Refusal.TheVariants.{Cut, Tail, Count, Prime, Shape, Strip, Width, Column, Row, Stale, Ahead, Many, Room, Exponent, Foreign, Twice, Element as NotElement}
-use Rattle.refusal.specs.declared.Outcome.TheVariants.{Refused as Undone}
-use Rattle.refusal.specs.Number.{number_of}
+use Rattle.refusal.specs.Number.{number_of, answer_number}
 use Rattle.stripe.specs.declared.Params.{Params}
-use Rattle.stripe.specs.declared.Checked.{Checked}
-use Rattle.stripe.specs.declared.Checked.TheVariants.{Sound, Refused as Unsound}
-use Rattle.stripe.specs.declared.Reading.{Reading}
-use Rattle.stripe.specs.declared.Reading.TheVariants.{Stripe, Refused as Unread}
 use Rattle.stripe.specs.Layout.{rows, column_length, data_count_at, parity_count_at, image_length, revision_of}
 use Rattle.stripe.specs.Params.{admitted_prime, admitted_shape, admitted_strip, checked_of}
-use Rattle.stripe.specs.Reading.{read_of, with_params, sections_of, reading_number}
+use Rattle.stripe.specs.Reading.{read_of, with_params, sections_of}
 use Rattle.stripe.specs.Sections.{numbers_at}
-use Rattle.ring.specs.declared.Element.TheVariants.{Refused as Unmade}
 use Rattle.ring.specs.Answer.{different, product_answer, divide_answer}
 use Rattle.parity.specs.Answer.{make_of, make_checked, make_sound, refill_of, refill_read, check_of, check_read}
 use Rattle.pattern.specs.Pattern.{pattern_fits, few_lost, asked, asked_read}
@@ -37,21 +32,17 @@ use Rattle.rebuild.specs.Answer.{rebuild_of, rebuild_read, restore_of, restore_a
 use Rattle.revision.specs.declared.Age.{Age}
 use Rattle.revision.specs.declared.Age.TheVariants.{Current, Older, Newer, Unclear}
 use Rattle.revision.specs.Revision.{judged, distance, is_current, age_number, age_distance}
-use Rattle.write.specs.declared.Written.{Written}
-use Rattle.write.specs.declared.Written.TheVariants.{Aged, Refused}
 use Rattle.write.specs.Written.{write_of, write_read, write_sound, write_judged, by_age, written_number, written_distance}
 use Rattle.away.specs.Away.{away_of, away_read, away_sound, away_judged}
 use Rattle.column_file.specs.File.{flag, number_at, flag_at, file_length}
 use Rattle.file_by_file.specs.Files.{first_params, alike, counted, body_step, column_step, checked_step, step_of, onward, walk}
-use Rattle.file_by_file.specs.declared.Met.{Met}
-use Rattle.file_by_file.specs.declared.Met.TheVariants.{Columns, Refused as Unmet}
-use Rattle.file_by_file.specs.declared.Step.{Step}
-use Rattle.file_by_file.specs.declared.Step.TheVariants.{File, Refused as Bad}
-use Rattle.columns.specs.declared.Imported.TheVariants.{Refused as Unimported}
-use Rattle.columns.specs.declared.Measured.TheVariants.{Refused as Unmeasured}
 use Rattle.columns.specs.Export.{export_sound, export_read, export_of, file_length_sound, file_length_read, file_length_of}
 use Rattle.columns.specs.Import.{import_sound, import_met, import_of, files_length_met, files_length_of}
-use Rattle.promises.specs.Demand1.{Test, ◌when◌, params_then, section_numbers, reading_then, product_order, divide_order, make_order, age_order, write_order, away_order, rebuild_order, strip_order, file_length_order, export_order, file_then, files_then, all_files_then, import_order, Result, only_answered, of_element, of_checked, of_reading, of_checkup, of_measured, of_outcome, of_written, of_imported, Zeros, none, one_more, RefusesInOrder, distance_due, Demand1}
+use Rattle.promises.specs.Demand1.{Test, ◌when◌, params_then, section_numbers, reading_then, product_order, divide_order, make_order, age_order, write_order, away_order, rebuild_order, strip_order, file_length_order, export_order, file_then, files_then, all_files_then, import_order, Outcome, only_answered, of_word, of_params, of_outcome, of_written, of_imported, Zeros, none, one_more, RefusesInOrder, distance_due, Demand1}
+use Rattle.write.specs.declared.Accepted.{Accepted}
+use Rattle.write.specs.declared.Refused.{Refused}
+use Rattle.file_by_file.specs.declared.File.{File}
+use Rattle.write.specs.declared.Refused.TheVariants.{Aged, Other}
 
 -- whichever way a choice goes, where its test is known then; and where it is not asked for
 pub by_test : {A : Type 0} (P : A → Type 0) (b : Bool) (x y : A) → (b ≡ true → P x) → P y → P (choose b x y)
@@ -64,22 +55,22 @@ either P b x y h k = by_test P b x y (λ _. h) k
 -- ---- one test of an order
 
 -- what a refusal comes to
-record RefusedBy (e : Refusal) (c : Result) : Type 0 where
+record RefusedBy (e : Refusal) (c : Outcome) : Type 0 where
   number : c.refusal ≡ number_of e
   zeros : Zeros c.beside
   same : c.left ≡ c.lent
 
-refuses : (e : Refusal) (c : Result) (more : List Test) → RefusedBy e c → RefusesInOrder ((e when true) ∷ more) c
+refuses : (e : Refusal) (c : Outcome) (more : List Test) → RefusedBy e c → RefusesInOrder ((e when true) ∷ more) c
 refuses e c more h = record { first = h.number; in_table = inr (e, h.number); beside_zero = λ _. h.zeros; unchanged = λ _. h.same }
 
-accepts : (c : Result) → c.refusal ≡ 0 → RefusesInOrder [] c
+accepts : (c : Outcome) → c.refusal ≡ 0 → RefusesInOrder [] c
 accepts c e = record { first = e; in_table = inl e; beside_zero = λ n. absurd (n e); unchanged = λ n. absurd (n e) }
 
-passed : (e : Refusal) (c : Result) (more : List Test) → RefusesInOrder more c → RefusesInOrder ((e when false) ∷ more) c
+passed : (e : Refusal) (c : Outcome) (more : List Test) → RefusesInOrder more c → RefusesInOrder ((e when false) ∷ more) c
 passed e c more h = record { first = h.first; in_table = h.in_table; beside_zero = h.beside_zero; unchanged = h.unchanged }
 
 -- a choice that goes on where its test holds, and one that goes on where it doesn't
-module _ {A : Type 0} (f : A → Result) (e : Refusal) (x y : A) {more : List Test} (bad : RefusedBy e (f y)) (on : RefusesInOrder more (f x)) where
+module _ {A : Type 0} (f : A → Outcome) (e : Refusal) (x y : A) {more : List Test} (bad : RefusedBy e (f y)) (on : RefusesInOrder more (f x)) where
   needs_test : (b : Bool) → RefusesInOrder ((e when not b) ∷ more) (f (choose b x y))
   needs_test true = passed e (f x) more on
   needs_test false = refuses e (f y) more bad
@@ -90,8 +81,8 @@ module _ {A : Type 0} (f : A → Result) (e : Refusal) (x y : A) {more : List Te
 
 -- ---- parameters and reading, whatever follows them
 
-params_first : (p k r b : ℕ) (f : Checked → Result) (more : List Test) → ((e : Refusal) → RefusedBy e (f (Unsound e)))
-    → RefusesInOrder more (f (Sound (record { p = p; k = k; r = r; b = b }))) → RefusesInOrder (params_then p k r b more) (f (checked_of p k r b))
+params_first : (p k r b : ℕ) (f : Result Params Refusal → Outcome) (more : List Test) → ((e : Refusal) → RefusedBy e (f (Err e)))
+    → RefusesInOrder more (f (Ok (record { p = p; k = k; r = r; b = b }))) → RefusesInOrder (params_then p k r b more) (f (checked_of p k r b))
 unfolding checked_of
 params_first p k r b f more bad on =
     needs_test f Prime _ _ (bad Prime)
@@ -100,7 +91,7 @@ params_first p k r b f more bad on =
     (admitted_shape p k r))
     (admitted_prime p)
 
-sections_first : (s : List ℕ) (q : Params) (f : Reading → Result) (more : List Test) → ((e : Refusal) → RefusedBy e (f (Unread e))) → RefusesInOrder more (f (Stripe q))
+sections_first : (s : List ℕ) (q : Params) (f : Result Params Refusal → Outcome) (more : List Test) → ((e : Refusal) → RefusedBy e (f (Err e))) → RefusesInOrder more (f (Ok q))
     → RefusesInOrder
     ((Cut when ltb (length s) (image_length q)) ∷ (Tail when ltb (image_length q) (length s)) ∷ (Count when not (eqb (u16 s 10) q.k))
     ∷ (Count when not (eqb (u16 s (data_count_at q)) q.k)) ∷ (Count when not (eqb (u16 s (parity_count_at q)) q.r)) ∷ more) (f (sections_of s q))
@@ -116,7 +107,7 @@ sections_first s q f more bad on =
     (ltb (image_length q) (length s)))
     (ltb (length s) (image_length q))
 
-reading_first : (s : List ℕ) (f : Reading → Result) (more : List Test) → ((e : Refusal) → RefusedBy e (f (Unread e))) → RefusesInOrder more (f (Stripe (section_numbers s)))
+reading_first : (s : List ℕ) (f : Result Params Refusal → Outcome) (more : List Test) → ((e : Refusal) → RefusedBy e (f (Err e))) → RefusesInOrder more (f (Ok (section_numbers s)))
     → RefusesInOrder (reading_then s more) (f (read_of s))
 unfolding read_of with_params
 reading_first s f more bad on =
@@ -136,8 +127,8 @@ age_at : ℕ → Age
 age_at d = choose (eqb d 0) Current (choose (eqb d (2 ^ 31)) Unclear (choose (ltb d (2 ^ 31)) (Older d) (Newer (2 ^ 32 - d))))
 
 -- where a write that is current leaves l
-module _ (s : List ℕ) (l : Left Written) (now : written_number l.answer ≡ 0) where
-  aged : Age → Result
+module _ (s : List ℕ) (l : Left (Result Accepted Refused)) (now : written_number l.answer ≡ 0) where
+  aged : Age → Outcome
   aged g = of_written s (by_age s l g)
 
   refused_by_age : (g : Age) (e : Refusal) → is_current g ≡ false → age_number g ≡ number_of e → RefusedBy e (aged g)
@@ -170,35 +161,35 @@ a_zero = one_more none
 four_zeros : Zeros (0 ∷ 0 ∷ 0 ∷ 0 ∷ [])
 four_zeros = one_more (one_more (one_more (one_more none)))
 
-no_element : (e : Refusal) → RefusedBy e (of_element (Unmade e))
+no_element : (e : Refusal) → RefusedBy e (of_word (Err e))
 no_element e = record { number = refl; zeros = a_zero; same = refl }
 
-product_ordered : (p u v : ℕ) → RefusesInOrder (product_order p u v) (of_element (product_answer p u v))
+product_ordered : (p u v : ℕ) → RefusesInOrder (product_order p u v) (of_word (product_answer p u v))
 unfolding product_answer
 product_ordered p u v =
-    needs_test of_element Prime _ _ (no_element Prime)
-    (needs_test of_element NotElement _ _ (no_element NotElement)
-    (needs_test of_element NotElement _ _ (no_element NotElement) (accepts _ refl) (element p v))
+    needs_test of_word Prime _ _ (no_element Prime)
+    (needs_test of_word NotElement _ _ (no_element NotElement)
+    (needs_test of_word NotElement _ _ (no_element NotElement) (accepts _ refl) (element p v))
     (element p u))
     (admitted_prime p)
 
-divide_ordered : (p s a b : ℕ) → RefusesInOrder (divide_order p s a b) (of_element (divide_answer p s a b))
+divide_ordered : (p s a b : ℕ) → RefusesInOrder (divide_order p s a b) (of_word (divide_answer p s a b))
 unfolding divide_answer
 divide_ordered p s a b =
-    needs_test of_element Prime _ _ (no_element Prime)
-    (needs_test of_element NotElement _ _ (no_element NotElement)
-    (needs_test of_element Exponent _ _ (no_element Exponent) (accepts _ refl) (different p a b))
+    needs_test of_word Prime _ _ (no_element Prime)
+    (needs_test of_word NotElement _ _ (no_element NotElement)
+    (needs_test of_word Exponent _ _ (no_element Exponent) (accepts _ refl) (different p a b))
     (element p s))
     (admitted_prime p)
 
-params_ordered : (p k r b : ℕ) → RefusesInOrder (params_then p k r b []) (of_checked (checked_of p k r b))
-params_ordered p k r b = params_first p k r b of_checked [] (λ e. record { number = refl; zeros = four_zeros; same = refl }) (accepts _ refl)
+params_ordered : (p k r b : ℕ) → RefusesInOrder (params_then p k r b []) (of_params (checked_of p k r b))
+params_ordered p k r b = params_first p k r b of_params [] (λ e. record { number = refl; zeros = four_zeros; same = refl }) (accepts _ refl)
 
-read_ordered : (s : List ℕ) → RefusesInOrder (reading_then s []) (of_reading (read_of s))
-read_ordered s = reading_first s of_reading [] (λ e. record { number = refl; zeros = four_zeros; same = refl }) (accepts _ refl)
+read_ordered : (s : List ℕ) → RefusesInOrder (reading_then s []) (of_params (read_of s))
+read_ordered s = reading_first s of_params [] (λ e. record { number = refl; zeros = four_zeros; same = refl }) (accepts _ refl)
 
 -- a refusal that leaves the slice s
-kept_slice : (s : List ℕ) (e : Refusal) → RefusedBy e (of_outcome s (record { answer = Undone e; image = s }))
+kept_slice : (s : List ℕ) (e : Refusal) → RefusedBy e (of_outcome s (record { answer = Err e; image = s }))
 kept_slice s e = record { number = refl; zeros = none; same = refl }
 
 make_ordered : (p k r b : ℕ) (d s : List ℕ) → RefusesInOrder (make_order p k r b d s) (of_outcome s (make_of p k r b d s))
@@ -214,12 +205,12 @@ refill_ordered : (s : List ℕ) → RefusesInOrder (reading_then s []) (of_outco
 unfolding refill_of refill_read
 refill_ordered s = reading_first s (λ w. of_outcome s (refill_read s w)) [] (kept_slice s) (accepts _ refl)
 
-check_ordered : (s : List ℕ) → RefusesInOrder (reading_then s []) (of_checkup (check_of s))
+check_ordered : (s : List ℕ) → RefusesInOrder (reading_then s []) (of_word (check_of s))
 unfolding check_of check_read
-check_ordered s = reading_first s (λ w. of_checkup (check_read s w)) [] (λ e. record { number = refl; zeros = a_zero; same = refl }) (accepts _ refl)
+check_ordered s = reading_first s (λ w. of_word (check_read s w)) [] (λ e. record { number = refl; zeros = a_zero; same = refl }) (accepts _ refl)
 
 -- a refused write
-kept_image : (s : List ℕ) (e : Refusal) → RefusedBy e (of_written s (record { answer = Refused e; image = s }))
+kept_image : (s : List ℕ) (e : Refusal) → RefusedBy e (of_written s (record { answer = Err (Other e); image = s }))
 kept_image s e = record { number = refl; zeros = one_more a_zero; same = refl }
 
 write_ordered : (s : List ℕ) (i t b : ℕ) (v : List ℕ) → RefusesInOrder (write_order s i t b v) (of_written s (write_of s i t b v))
@@ -256,7 +247,7 @@ rebuild_ordered s m =
     (pattern_fits q m))
 
 -- a question about one strip, whatever follows where it is sound
-asked_first : (s : List ℕ) (m n t room : ℕ) (f : Reading → Result) → ((e : Refusal) → RefusedBy e (f (Unread e))) → ((q : Params) → (f (Stripe q)).refusal ≡ 0)
+asked_first : (s : List ℕ) (m n t room : ℕ) (f : Result Params Refusal → Outcome) → ((e : Refusal) → RefusedBy e (f (Err e))) → ((q : Params) → (f (Ok q)).refusal ≡ 0)
     → RefusesInOrder (strip_order s m n t room) (f (asked s m n t room))
 unfolding asked asked_read
 asked_first s m n t room f bad on =
@@ -277,19 +268,19 @@ restore_ordered s m n t c = asked_first s m n t (length c) (λ w. of_outcome c (
 show_ordered : (s : List ℕ) (m n t room : ℕ) → RefusesInOrder (strip_order s m n t room) (only_answered (show_number s m n t room) [])
 unfolding show_number
 show_ordered s m n t room =
-    asked_first s m n t room (λ w. only_answered (reading_number w) []) (λ e. record { number = refl; zeros = none; same = refl }) (λ q. refl)
+    asked_first s m n t room (λ w. only_answered (answer_number w) []) (λ e. record { number = refl; zeros = none; same = refl }) (λ q. refl)
 
 -- ---- column files
 
-unmeasured : (e : Refusal) → RefusedBy e (of_measured (Unmeasured e))
+unmeasured : (e : Refusal) → RefusedBy e (of_word (Err e))
 unmeasured e = record { number = refl; zeros = a_zero; same = refl }
 
-measure_ordered : (s : List ℕ) (n : ℕ) → RefusesInOrder (file_length_order s n []) (of_measured (file_length_of s n))
+measure_ordered : (s : List ℕ) (n : ℕ) → RefusesInOrder (file_length_order s n []) (of_word (file_length_of s n))
 unfolding file_length_of file_length_read file_length_sound
 measure_ordered s n =
     let q : Params = section_numbers s in
-    reading_first s (λ w. of_measured (file_length_read n w)) _ unmeasured
-    (needs_test of_measured Column _ _ (unmeasured Column) (accepts _ refl) (ltb n (q.k + q.r)))
+    reading_first s (λ w. of_word (file_length_read n w)) _ unmeasured
+    (needs_test of_word Column _ _ (unmeasured Column) (accepts _ refl) (ltb n (q.k + q.r)))
 
 export_ordered : (s : List ℕ) (n : ℕ) (t : List ℕ) → RefusesInOrder (export_order s n (length t)) (of_outcome t (export_of s n t))
 unfolding export_of export_read export_sound
@@ -301,8 +292,8 @@ export_ordered s n t =
     (ltb n (q.k + q.r)))
 
 -- one file, whatever follows it
-file_first : (s : List ℕ) (at met : ℕ) (f : Step → Result) (more : List Test) → ((e : Refusal) → RefusedBy e (f (Bad e)))
-    → (let n : ℕ = u16 s (at + number_at) in RefusesInOrder more (f (File n (at + file_length (numbers_at s at) n))))
+file_first : (s : List ℕ) (at met : ℕ) (f : Result File Refusal → Outcome) (more : List Test) → ((e : Refusal) → RefusedBy e (f (Err e)))
+    → (let n : ℕ = u16 s (at + number_at) in RefusesInOrder more (f (Ok (record { column = n; end = (at + file_length (numbers_at s at) n) }))))
     → RefusesInOrder (file_then s at met more) (f (step_of s at met))
 unfolding step_of checked_step column_step body_step
 file_first s at met f more bad on =
@@ -326,8 +317,8 @@ file_first s at met f more bad on =
     (ltb (length s - at) 2)
 
 -- all files, whatever follows them
-files_first : (most : ℕ) (s : List ℕ) (at met : ℕ) (f : Met → Result) (more : List Test) → ((e : Refusal) → RefusedBy e (f (Unmet e)))
-    → ((m : ℕ) → RefusesInOrder more (f (Columns m))) → RefusesInOrder (files_then most s at met more) (f (walk most s at met))
+files_first : (most : ℕ) (s : List ℕ) (at met : ℕ) (f : Result ℕ Refusal → Outcome) (more : List Test) → ((e : Refusal) → RefusedBy e (f (Err e)))
+    → ((m : ℕ) → RefusesInOrder more (f (Ok m))) → RefusesInOrder (files_then most s at met more) (f (walk most s at met))
 unfolding files_then walk onward
 files_first zero s at met f more bad on = refuses Cut _ _ (bad Cut)
 files_first (suc most) s at met f more bad on =
@@ -336,7 +327,7 @@ files_first (suc most) s at met f more bad on =
     file_first s at met (λ w. f (onward s met (λ to m. walk most s to m) w)) _ bad
     (goes (ltb to (length s)) (files_first most s to (met ⊕ 2 ^ n) f more bad on) (on (met ⊕ 2 ^ n)))
   where
-    goes : (b : Bool) {x y : Met} {l r : List Test} → RefusesInOrder l (f x) → RefusesInOrder r (f y) → RefusesInOrder (choose b l r) (f (choose b x y))
+    goes : (b : Bool) {x y : Result ℕ Refusal} {l r : List Test} → RefusesInOrder l (f x) → RefusesInOrder r (f y) → RefusesInOrder (choose b l r) (f (choose b x y))
     goes true h k = h
     goes false h k = k
 
@@ -346,18 +337,18 @@ import_ordered s t =
     files_first (length s - 0) s 0 0 (λ w. of_imported t (import_met s t w)) _ unfilled
     (λ m. needs_test (of_imported t) Room _ _ (unfilled Room) (accepts _ refl) (eqb (length t) (image_length (first_params s))))
   where
-    unfilled : (e : Refusal) → RefusedBy e (of_imported t (record { answer = Unimported e; image = t }))
+    unfilled : (e : Refusal) → RefusedBy e (of_imported t (record { answer = Err e; image = t }))
     unfilled e = record { number = refl; zeros = a_zero; same = refl }
 
-measure_all_ordered : (s : List ℕ) → RefusesInOrder (all_files_then s []) (of_measured (files_length_of s))
+measure_all_ordered : (s : List ℕ) → RefusesInOrder (all_files_then s []) (of_word (files_length_of s))
 unfolding files_length_of files_length_met
-measure_all_ordered s = files_first (length s - 0) s 0 0 (λ w. of_measured (files_length_met s w)) [] unmeasured (λ m. accepts _ refl)
+measure_all_ordered s = files_first (length s - 0) s 0 0 (λ w. of_word (files_length_met s w)) [] unmeasured (λ m. accepts _ refl)
 
 -- ---- beside the refusals of a write
 
 -- a statement on what reading gives holds if it does of each refusal that reading can give, and of the accepted image
-reading_cases : (s : List ℕ) (P : Reading → Type 0) → P (Unread Cut) → P (Unread Tail) → P (Unread Count) → P (Unread Prime) → P (Unread Shape) → P (Unread Strip)
-    → P (Stripe (section_numbers s)) → P (read_of s)
+reading_cases : (s : List ℕ) (P : Result Params Refusal → Type 0) → P (Err Cut) → P (Err Tail) → P (Err Count) → P (Err Prime) → P (Err Shape) → P (Err Strip)
+    → P (Ok (section_numbers s)) → P (read_of s)
 unfolding read_of with_params sections_of checked_of
 reading_cases s P cut tail count prime shape strip on =
     let q : Params = section_numbers s in
@@ -380,7 +371,7 @@ reading_cases s P cut tail count prime shape strip on =
     count)
 
 -- the distance of an answer is the due one
-abbrev BesideDue : List ℕ → ℕ → ℕ → Written → Type 0
+abbrev BesideDue : List ℕ → ℕ → ℕ → Result Accepted Refused → Type 0
 BesideDue s i b a = written_distance a ≡ distance_due (written_number a) (revision_of s i) b
 
 aged_distance : (d : ℕ) → let g = age_at d in age_distance g ≡ choose (eqb (age_number g) (number_of Stale)) d (choose (eqb (age_number g) (number_of Ahead)) (2 ^ 32 - d) 0)
@@ -392,7 +383,7 @@ aged_distance d =
     Told : Age → Type 0
     Told g = age_distance g ≡ choose (eqb (age_number g) (number_of Stale)) d (choose (eqb (age_number g) (number_of Ahead)) (2 ^ 32 - d) 0)
 
-aged_due : (s : List ℕ) (i b : ℕ) (a : Written) → BesideDue s i b a → let g = judged (revision_of s i) b in BesideDue s i b (choose (is_current g) a (Aged g))
+aged_due : (s : List ℕ) (i b : ℕ) (a : Result Accepted Refused) → BesideDue s i b a → let g = judged (revision_of s i) b in BesideDue s i b (choose (is_current g) a (Err (Aged g)))
 unfolding judged age_at
 aged_due s i b a h = either (BesideDue s i b) (is_current (judged (revision_of s i) b)) a _ h (aged_distance (distance (revision_of s i) b))
 
@@ -400,7 +391,7 @@ write_beside : (s : List ℕ) (i t b : ℕ) (v : List ℕ) → BesideDue s i b (
 unfolding write_of write_read write_sound write_judged
 write_beside s i t b v =
     let q : Params = section_numbers s in
-    let P : Left Written → Type 0 = λ l. BesideDue s i b l.answer in
+    let P : Left (Result Accepted Refused) → Type 0 = λ l. BesideDue s i b l.answer in
     reading_cases s (λ w. P (write_read s i t b v w)) refl refl refl refl refl refl
     (either P (ltb i q.k) _ _ (either P (ltb t (rows q)) _ _ (either P (eqb (length v) q.b) _ _ (aged_due s i b _ refl) refl) refl) refl)
 
@@ -408,7 +399,7 @@ away_beside : (s : List ℕ) (m i t b : ℕ) (v : List ℕ) → BesideDue s i b 
 unfolding away_of away_read away_sound away_judged
 away_beside s m i t b v =
     let q : Params = section_numbers s in
-    let P : Left Written → Type 0 = λ l. BesideDue s i b l.answer in
+    let P : Left (Result Accepted Refused) → Type 0 = λ l. BesideDue s i b l.answer in
     reading_cases s (λ w. P (away_read s m i t b v w)) refl refl refl refl refl refl
     (either P (pattern_fits q m && ltb i q.k) _ _
     (either P (ltb t (rows q)) _ _ (either P (eqb (length v) q.b) _ _ (either P (few_lost q m) _ _ (aged_due s i b _ refl) refl) refl) refl) refl)
@@ -418,9 +409,9 @@ show_nothing : (s : List ℕ) (m n t : ℕ) (c : List ℕ) (x y : ℕ × ℕ) �
 unfolding shown shown_asked shown_at shown_asked_at show_number
 show_nothing s m n t c x y h = go (asked s m n t (length c)) h
   where
-    go : (w : Reading) → reading_number w ≢ 0 → (shown_asked s m n t c w ≡ []) × (shown_asked_at m n t x y w ≡ y)
-    go (Stripe q) n = absurd (n refl)
-    go (Unread e) n = (refl, refl)
+    go : (w : Result Params Refusal) → answer_number w ≢ 0 → (shown_asked s m n t c w ≡ []) × (shown_asked_at m n t x y w ≡ y)
+    go (Ok q) n = absurd (n refl)
+    go (Err e) n = (refl, refl)
 
 -- ---- the theorem
 

@@ -7,11 +7,11 @@ use mathlib.Core.Path.{◌≡◌, sym, ◌∙◌, refl, ap}
 use native.Mathlib.Omega.{arith}
 use lib.Dec.{T}
 use lib.ListN.{length, get_or}
+use Rattle.std.specs.Prelude.{Ok}
 use Rattle.laws.specs.Choose.{choose}
 use Rattle.stripe.proofs.Frame.{image_same}
 use Rattle.stripe.specs.Layout.{rows, data_byte, parity_byte}
 use Rattle.stripe.specs.Reading.{Image, read_of}
-use Rattle.stripe.specs.declared.Reading.TheVariants.{Stripe}
 use Rattle.stripe.specs.declared.Params.{Params}
 use Rattle.block.proofs.Touching.{due_agree}
 use Rattle.block.specs.Parity.{due, Right}
@@ -21,7 +21,6 @@ use Rattle.pattern.proofs.Single.{none_lost}
 use Rattle.rebuild.proofs.Independent.{rebuilt_agrees}
 use Rattle.promises.proofs.Solved.{whole_only}
 use Rattle.rebuild.specs.Agrees.{AgreesOutside}
-use Rattle.refusal.specs.declared.Outcome.TheVariants.{Done}
 use Rattle.rebuild.specs.Answer.{rebuild_of, rebuild_read}
 use Rattle.pattern.specs.Pattern.{pattern_fits, few_lost, is_lost, consulted}
 use Rattle.rebuild.specs.Lost.{whole_data, whole_parity, rebuilt}
@@ -69,7 +68,7 @@ rebuilt_none s q i =
     (λ c t x h k l. rw (none_lost c)) (λ j t x h k l. rw (none_lost (q.k + j))))
 
 -- what rebuild comes to where nothing is refused
-pub rebuild_done : (s : List ℕ) (q : Params) (m : ℕ) → read_of s ≡ Stripe q → pattern_fits q m ≡ true → few_lost q m ≡ true
-    → rebuild_of s m ≡ record { answer = Done; image = rebuilt s q m }
+pub rebuild_done : (s : List ℕ) (q : Params) (m : ℕ) → read_of s ≡ Ok q → pattern_fits q m ≡ true → few_lost q m ≡ true
+    → rebuild_of s m ≡ record { answer = Ok tt; image = rebuilt s q m }
 unfolding rebuild_of rebuild_read
 rebuild_done s q m reads fits few = ap (rebuild_read s m) reads ∙ rw (fits, few)

@@ -9,6 +9,7 @@ use native.Mathlib.Omega.{arith}
 use lib.Dec.{ltb, leb, ltb→lt, leb→le}
 use lib.ListN.{length, get_or, take}
 use borrow.Author.Tests.{ltb-false}
+use Rattle.std.specs.Prelude.{Result, Ok, Err}
 use Rattle.laws.proofs.Choose.{choose_yes, and_left, and_right, true_T, T_true}
 use Rattle.laws.proofs.Part.{is_part, part_put, length_put}
 use Rattle.laws.proofs.Tab.{length_tab, get_or_tab}
@@ -19,12 +20,9 @@ use Rattle.refusal.specs.declared.Refusal.{Refusal}
 use Rattle.refusal.specs.declared.Refusal.TheVariants.{Column, Row, Many, Room}
 use Rattle.stripe.proofs.Places.{strip_in, parity_in, parity_strip_in}
 use Rattle.stripe.specs.Layout.{rows, strip_at, parity_strip_at}
-use Rattle.stripe.specs.Reading.{Image, read_of, reading_number}
+use Rattle.stripe.specs.Reading.{Image, read_of}
 use Rattle.stripe.specs.declared.Params.{Params}
-use Rattle.stripe.specs.declared.Reading.{Reading}
-use Rattle.stripe.specs.declared.Reading.TheVariants.{Stripe, Refused as Unread}
-use Rattle.refusal.specs.declared.Outcome.{Outcome}
-use Rattle.refusal.specs.Number.{number_of}
+use Rattle.refusal.specs.Number.{number_of, answer_number}
 use Rattle.rebuild.proofs.Cells.{rebuilt_data, rebuilt_parity, rebuilt_length}
 use Rattle.rebuild.proofs.Whole.{whole_data_present, whole_parity_present}
 use Rattle.rebuild.specs.Answer.{column_strip_at, shown, shown_asked, show_number, restore_of, restore_asked, rebuild_of}
@@ -35,19 +33,19 @@ use Rattle.promises.proofs.Rebuilt.{rebuild_done}
 
 -- what a sound question has shown
 record Within (s : List ℕ) (q : Params) (m n t room : ℕ) : Type 0 where
-  sound : asked s m n t room ≡ Stripe q
+  sound : asked s m n t room ≡ Ok q
   fits : pattern_fits q m ≡ true
   few : few_lost q m ≡ true
   column_in : n < q.k + q.r
   row_in : t < rows q
   room_in : q.b ≤ room
 
-within : (s : List ℕ) (q : Params) (m n t room : ℕ) → read_of s ≡ Stripe q → show_number s m n t room ≡ 0 → Within s q m n t room
+within : (s : List ℕ) (q : Params) (m n t room : ℕ) → read_of s ≡ Ok q → show_number s m n t room ≡ 0 → Within s q m n t room
 unfolding show_number asked asked_read
 within s q m n t room reads e =
-    let w : Reading = asked s m n t room in
-    let no : (x : Refusal) → number_of x ≢ 0 → w ≡ Unread x → ⊥ = λ x h z. h (sym (ap reading_number z) ∙ e) in
-    let f : w ≡ asked_read m n t room (Stripe q) = ap (asked_read m n t room) reads in
+    let w : Result Params Refusal = asked s m n t room in
+    let no : (x : Refusal) → number_of x ≢ 0 → w ≡ Err x → ⊥ = λ x h z. h (sym (ap answer_number z) ∙ e) in
+    let f : w ≡ asked_read m n t room (Ok q) = ap (asked_read m n t room) reads in
     let a = choose_yes (pattern_fits q m && ltb n (q.k + q.r)) _ _ w (no Column (λ z. absurd (omega (arith, z)))) f in
     let b = choose_yes (ltb t (rows q)) _ _ w (no Row (λ z. absurd (omega (arith, z)))) a.1 in
     let c = choose_yes (few_lost q m) _ _ w (no Many (λ z. absurd (omega (arith, z)))) b.1 in
@@ -107,17 +105,17 @@ unfolding part
 front_put c v h = let k : 0 + length v ≤ length c = omega arith in part_put c 0 v k
 
 -- "restoring writes the strip that Rebuild would put there": and showing then returns it
-pub restored_shown : (s : List ℕ) (q : Params) (m n t : ℕ) (c : List ℕ) → read_of s ≡ Stripe q → show_number s m n t (length c) ≡ 0
+pub restored_shown : (s : List ℕ) (q : Params) (m n t : ℕ) (c : List ℕ) → read_of s ≡ Ok q → show_number s m n t (length c) ≡ 0
     → shown s m n t (restore_of s m n t c).image ≡ part (rebuild_of s m).image (column_strip_at q n t) q.b
 unfolding shown shown_asked restore_of restore_asked
 restored_shown s q m n t c reads zero =
-    ap (λ (a : Reading). shown s m n t (restore_asked s m n t c a).image) e ∙ go (is_lost m n) refl
-    ∙ ap (λ (l : Left Outcome). part l.image (column_strip_at q n t) q.b) (sym (rebuild_done s q m reads w.fits w.few))
+    ap (λ (a : Result Params Refusal). shown s m n t (restore_asked s m n t c a).image) e ∙ go (is_lost m n) refl
+    ∙ ap (λ (l : Left (Result (Unit {0}) Refusal)). part l.image (column_strip_at q n t) q.b) (sym (rebuild_done s q m reads w.fits w.few))
   where
     w : Within s q m n t (length c)
     w = within s q m n t (length c) reads zero
 
-    e : asked s m n t (length c) ≡ Stripe q
+    e : asked s m n t (length c) ≡ Ok q
     e = w.sound
 
     I : Image s q

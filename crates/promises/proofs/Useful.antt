@@ -6,6 +6,7 @@ use mathlib.Core.List.{List}
 use mathlib.Core.Path.{◌≡◌, sym, ap, subst, ◌∙◌}
 use native.Mathlib.Decide.{ℕ_discrete}
 use lib.ListN.{get_or}
+use Rattle.std.specs.Prelude.{Ok}
 use Rattle.laws.proofs.Sum.{pick_zero}
 use Rattle.laws.proofs.Xor.{⊕_self, ⊕_zero}
 use Rattle.laws.specs.Sum.{pick}
@@ -13,16 +14,14 @@ use Rattle.laws.specs.Xor.{◌⊕◌}
 use Rattle.stripe.specs.Layout.{rows, revision_of, data_byte, parity_byte}
 use Rattle.stripe.specs.Reading.{Image, read_of}
 use Rattle.stripe.specs.declared.Params.{Params}
-use Rattle.stripe.specs.declared.Reading.TheVariants.{Stripe}
 use Rattle.block.proofs.Touching.{due_agree, count_least, count_most}
 use Rattle.block.specs.Parity.{due, Right}
 use Rattle.block.specs.Touches.{count, touches}
 use Rattle.revision.specs.Revision.{judged, renewed}
 use Rattle.store.specs.Kinds.{keyed}
 use Rattle.store.specs.Store.{Write, Entry, accepts, answer}
-use Rattle.write.proofs.Accepted.{written_strip_here, written_strip_elsewhere, written_parity, written_revision_here}
+use Rattle.write.proofs.After.{written_strip_here, written_strip_elsewhere, written_parity, written_revision_here}
 use Rattle.write.specs.Written.{written, difference}
-use Rattle.write.specs.declared.Written.TheVariants.{Accepted}
 use Rattle.present.proofs.Counts.{present_least, present_most}
 use Rattle.present.specs.Present.{present_count, present_parities}
 use Rattle.away.specs.Away.{away_written}
@@ -43,7 +42,7 @@ module _ (s : List ℕ) (q : Params) (w : Write) (c : Current s q w) where
   image = reads_image s q c.reads
 
   -- how it is answered, and that it is accepted
-  told_accepted : told s w ≡ answer_of (Accepted (renewed w.base) (count q w.column w.row))
+  told_accepted : told s w ≡ answer_of (Ok (record { revision = renewed w.base; count = count q w.column w.row }))
   told_accepted =
       let g = judged (revision_of s w.column) w.base in
       let is : told s w ≡ aged (count q) w g = told_sound q s w image c.sound in
@@ -74,7 +73,7 @@ module _ (s : List ℕ) (q : Params) (w : Write) (c : Current s q w) where
 
   -- the same while columns are lost
   module _ (m : ℕ) (P : Pattern q m) where
-    away_accepted : told_away m s w ≡ answer_of (Accepted (renewed w.base) (present_count q m w.column w.row))
+    away_accepted : told_away m s w ≡ answer_of (Ok (record { revision = renewed w.base; count = present_count q m w.column w.row }))
     unfolding recounted
     away_accepted = told_alike q m w P s s image (agrees_refl s q m) ∙ ap (recounted q m w) told_accepted
 
@@ -135,7 +134,7 @@ module _ (s : List ℕ) (q : Params) (w : Write) (c : Current s q w) where
     pub same_bytes : CountedAlike s q w
     same_bytes = record { alike = write_counted; data_stays = data_same; parity_stays = parity_same }
 
-last_parity : (s : List ℕ) (q : Params) (es : List Entry) → read_of s ≡ Stripe q → RevisionBytes s q → Right s q
+last_parity : (s : List ℕ) (q : Params) (es : List Entry) → read_of s ≡ Ok q → RevisionBytes s q → Right s q
     → (j t x : ℕ) → j < q.r → t < rows q → x < q.b → parity_byte (last_image s es) q j t x ≡ due q (last_byte told left s q es) j t x
 last_parity s q es reads b r j t x hj ht hx =
     ((demand_3_of s q reads b es).right_stays r).parity_due j t x hj ht hx

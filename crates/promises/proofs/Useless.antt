@@ -7,6 +7,7 @@ use mathlib.Core.Path.{◌≡◌, ap, ◌∙◌, sym, refl, subst}
 use native.Mathlib.Omega.{arith}
 use lib.Dec.{ltb, ltb→lt}
 use lib.ListN.{get_or, replicate}
+use Rattle.std.specs.Prelude.{Result, Ok}
 use Rattle.laws.proofs.Choose.{below_at}
 use Rattle.laws.specs.Bit.{weight, bit, pack}
 use Rattle.laws.specs.Choose.{below}
@@ -25,7 +26,6 @@ use Rattle.stripe.specs.Layout.{data_count_at, revision_of, parity_byte}
 use Rattle.stripe.specs.Params.{checked_of, admitted_prime, admitted_shape, admitted_strip}
 use Rattle.stripe.specs.Reading.{read_of, with_params, sections_of}
 use Rattle.stripe.specs.declared.Params.{Params}
-use Rattle.stripe.specs.declared.Reading.TheVariants.{Stripe}
 use Rattle.block.specs.Parity.{due, Right}
 use Rattle.block.specs.Touches.{touch_word, count}
 use Rattle.parity.proofs.Rightness.{check_none}
@@ -34,7 +34,6 @@ use Rattle.pattern.specs.Pattern.{pattern_fits, few_lost, consulted, lost_expone
 use Rattle.rebuild.proofs.Independent.{rebuilt_keeps}
 use Rattle.rebuild.specs.Agrees.{AgreesOutside}
 use Rattle.rebuild.specs.Lost.{rebuilt, whole_data, whole_parity, recovered, consulted_lanes, present_lanes}
-use Rattle.refusal.specs.declared.Outcome.{Outcome}
 use Rattle.revision.specs.Revision.{renewed, Behind}
 use Rattle.store.specs.Image.{image_log, image_last}
 use Rattle.store.specs.Store.{Write, Entry, later, last_accepted, byte_of}
@@ -43,6 +42,7 @@ use Rattle.promises.proofs.Away.{agrees_sym}
 use Rattle.promises.specs.Demand2.{Pattern, Rebuilds}
 use Rattle.promises.specs.Demand3.{Answer, RevisionBytes, Sound, Current}
 use Rattle.promises.specs.Useful.{RefusesExactly, PutsNewBytes, SetsRevision, HoldsLastWrites, HoldsLastParity, CountsPairs, TellsDistance}
+use Rattle.refusal.specs.declared.Refusal.{Refusal}
 
 -- ---- I and the writes
 
@@ -52,7 +52,7 @@ I = example_image
 abbrev Q : Params
 Q = example_params
 
-I_reads : read_of I ≡ Stripe Q
+I_reads : read_of I ≡ Ok Q
 unfolding read_of with_params sections_of checked_of admitted_prime admitted_shape admitted_strip odd_prime below
 I_reads = refl
 
@@ -141,7 +141,7 @@ module _ (told : List ℕ → Write → Answer) (left : List ℕ → Write → L
 abbrev cleared : List ℕ
 cleared = put I 22 (replicate 8 0)
 
-cleared_reads : read_of cleared ≡ Stripe Q
+cleared_reads : read_of cleared ≡ Ok Q
 unfolding put read_of with_params sections_of checked_of admitted_prime admitted_shape admitted_strip odd_prime below
 cleared_reads = refl
 
@@ -158,7 +158,7 @@ unfolding pattern_fits few_lost weight bit
 both_lost = record { fits = tt; few = tt }
 
 -- a rebuild that does nothing: byte 22 stays 0, and is 1 in I
-pub rebuilds_nothing : (f : List ℕ → ℕ → Left Outcome) → ((s : List ℕ) (m : ℕ) → (f s m).image ≡ s) → Rebuilds f → ⊥
+pub rebuilds_nothing : (f : List ℕ → ℕ → Left (Result (Unit {0}) Refusal)) → ((s : List ℕ) (m : ℕ) → (f s m).image ≡ s) → Rebuilds f → ⊥
 unfolding put
 rebuilds_nothing f nothing rule =
     let z : ◌≡◌ {A = ℕ} 0 1 = ap (λ (l : List ℕ). get_or l 22 0) (sym (nothing cleared 3) ∙ (rule I cleared Q 3 I_reads I_right both_lost cleared_agrees).left) in omega arith

@@ -2,11 +2,10 @@
 -- with this image's revisions, and the columns lost afterwards." "For this mode demand 3 supposes that some right image agrees with all present
 -- columns, and holds with one sound pattern for the whole list, its last state read on the image that demand 2's rebuild then gives."
 -- Assumes nothing.
-use Rattle.std.specs.Prelude.{ℕ, ◌<◌, ◌≡◌, List}
+use Rattle.std.specs.Prelude.{ℕ, ◌<◌, ◌≡◌, List, Result, Ok}
 use Rattle.laws.specs.Choose.{choose}
 use Rattle.laws.specs.Left.{Left}
 use Rattle.stripe.specs.declared.Params.{Params}
-use Rattle.stripe.specs.declared.Reading.TheVariants.{Stripe}
 use Rattle.stripe.specs.Layout.{rows, data_byte}
 use Rattle.stripe.specs.Reading.{read_of}
 use Rattle.store.specs.Lists.{Shuffled}
@@ -15,14 +14,15 @@ use Rattle.store.specs.Image.{image_log, image_last}
 use Rattle.block.specs.Parity.{Right}
 use Rattle.rebuild.specs.Agrees.{AgreesOutside}
 use Rattle.rebuild.specs.Lost.{rebuilt}
-use Rattle.write.specs.declared.Written.{Written}
 use Rattle.present.specs.Present.{present_count}
 use Rattle.away.specs.Away.{away_of}
 use Rattle.away.specs.Stays.{Stays}
 use Rattle.promises.specs.Demand3.{Answer, answer_of, is_accepted, told, left, RevisionBytes, EachRefusedExactly}
+use Rattle.write.specs.declared.Accepted.{Accepted}
+use Rattle.write.specs.declared.Refused.{Refused}
 
 -- one write with the pattern m on an image: what the contract of `away::write` says it leaves
-abbrev pub write_away : ℕ → List ℕ → Write → Left Written
+abbrev pub write_away : ℕ → List ℕ → Write → Left (Result Accepted Refused)
 write_away m s w = away_of s m w.column w.row w.base w.strip
 
 abbrev pub told_away : ℕ → List ℕ → Write → Answer
@@ -40,7 +40,7 @@ last_away m = image_last (told_away m) (left_away m)
 
 -- z is a right image that agrees with all present columns of s, and has its revisions
 pub record Complete (z s : List ℕ) (q : Params) (m : ℕ) : Type 0 where
-  pub accepted : read_of z ≡ Stripe q
+  pub accepted : read_of z ≡ Ok q
   pub right : Right z q
   pub agrees : AgreesOutside z s q m
 
@@ -79,7 +79,7 @@ pub record Demand3Away (s : List ℕ) (q : Params) (m : ℕ) (es fs : List Entry
   -- "the final images are equal", in lost columns too: these stay
   pub same_image : last_away m s es ≡ last_away m s fs
   pub stays : Stays s (last_away m s es) q m
-  pub still_accepted : read_of (last_away m s es) ≡ Stripe q
+  pub still_accepted : read_of (last_away m s es) ≡ Ok q
   pub still_bytes : RevisionBytes (last_away m s es) q
   -- the premise holds again, so that a list may follow
   pub still_completed : Completed (last_away m s es) q m

@@ -2,7 +2,7 @@
 -- lent byte." Document 01: "A refusal carries its number; every number beside it is 0; no lent byte changes." Request 2: "On STALE and AHEAD, document 01's
 -- rule that numbers beside a refusal are 0 gives way to this distance."
 -- Assumes nothing.
-use Rattle.std.specs.Prelude.{ℕ, zero, suc, ◌+◌, ◌-◌, ◌*◌, ◌^◌, Bool, true, not, ◌&&◌, List, [], ◌∷◌, ◌≢◌, ◌⊎◌, ◌≡◌, eqb, ltb, leb, length}
+use Rattle.std.specs.Prelude.{ℕ, zero, suc, ◌+◌, ◌-◌, ◌*◌, ◌^◌, Bool, true, not, ◌&&◌, List, [], ◌∷◌, ◌≢◌, ◌⊎◌, ◌≡◌, eqb, ltb, leb, length, Result}
 use Rattle.laws.specs.Bit.{bit}
 use Rattle.laws.specs.Choose.{choose}
 use Rattle.laws.specs.Left.{Left}
@@ -11,31 +11,25 @@ use Rattle.laws.specs.Xor.{◌⊕◌}
 use Rattle.algebra.specs.Word.{element}
 use Rattle.refusal.specs.declared.Refusal.{Refusal}
 use Rattle.refusal.specs.declared.Refusal.TheVariants.{Cut, Tail, Count, Prime, Shape, Strip, Width, Column, Row, Stale, Ahead, Many, Room, Exponent, Unclear, Foreign, Twice, Element as NotElement}
-use Rattle.refusal.specs.declared.Outcome.{Outcome}
-use Rattle.refusal.specs.Number.{number_of}
+use Rattle.refusal.specs.Number.{number_of, answer_number, answer_value}
 use Rattle.stripe.specs.declared.Params.{Params}
-use Rattle.stripe.specs.declared.Checked.{Checked}
-use Rattle.stripe.specs.declared.Reading.{Reading}
 use Rattle.stripe.specs.Layout.{rows, column_length, data_count_at, parity_count_at, image_length, revision_of}
-use Rattle.stripe.specs.Params.{admitted_prime, admitted_shape, admitted_strip, checked_of, checked_number, checked_values}
-use Rattle.stripe.specs.Reading.{read_of, reading_number, reading_values}
+use Rattle.stripe.specs.Params.{admitted_prime, admitted_shape, admitted_strip, checked_of, answer_values}
+use Rattle.stripe.specs.Reading.{read_of}
 use Rattle.stripe.specs.Sections.{numbers_at}
-use Rattle.ring.specs.declared.Element.{Element}
-use Rattle.ring.specs.Answer.{different, product_answer, divide_answer, element_number, element_value}
-use Rattle.parity.specs.declared.Checkup.{Checkup}
-use Rattle.parity.specs.Answer.{make_of, refill_of, check_of, outcome_number, checkup_number, checkup_value}
+use Rattle.ring.specs.Answer.{different, product_answer, divide_answer}
+use Rattle.parity.specs.Answer.{make_of, refill_of, check_of}
 use Rattle.pattern.specs.Pattern.{pattern_fits, few_lost}
 use Rattle.rebuild.specs.Answer.{rebuild_of, restore_of, shown, shown_at, show_number}
 use Rattle.revision.specs.Revision.{distance}
-use Rattle.write.specs.declared.Written.{Written}
 use Rattle.write.specs.Written.{write_of, written_number, written_revision, written_count, written_distance}
 use Rattle.away.specs.Away.{away_of}
 use Rattle.column_file.specs.File.{flag, number_at, flag_at, file_length}
 use Rattle.file_by_file.specs.Files.{first_params, alike, counted}
-use Rattle.columns.specs.declared.Imported.{Imported}
-use Rattle.columns.specs.declared.Measured.{Measured}
-use Rattle.columns.specs.Export.{export_of, file_length_of, measured_number, measured_value}
-use Rattle.columns.specs.Import.{import_of, files_length_of, imported_number, imported_value}
+use Rattle.columns.specs.Export.{export_of, file_length_of}
+use Rattle.columns.specs.Import.{import_of, files_length_of}
+use Rattle.write.specs.declared.Accepted.{Accepted}
+use Rattle.write.specs.declared.Refused.{Refused}
 
 -- ---- a call's refusals in their order, each with the test by which it is due
 
@@ -204,36 +198,27 @@ import_order s room = all_files_then s ((Room when not (eqb room (image_length (
 -- ---- what a call comes to, by the documents' numbers
 
 -- its refusal, 0 where there is none; the other numbers of its answer; the slice that it is lent to change, before and after
-pub record Result : Type 0 where
+pub record Outcome : Type 0 where
   pub refusal : ℕ
   pub beside : List ℕ
   pub lent : List ℕ
   pub left : List ℕ
 
 -- of a call that is lent nothing to change
-abbrev pub only_answered : ℕ → List ℕ → Result
+abbrev pub only_answered : ℕ → List ℕ → Outcome
 only_answered n beside = record { refusal = n; beside = beside; lent = []; left = [] }
 
-abbrev pub of_element : Element → Result
-of_element a = only_answered (element_number a) (element_value a ∷ [])
+abbrev pub of_word : Result ℕ Refusal → Outcome
+of_word a = only_answered (answer_number a) (answer_value a ∷ [])
 
-abbrev pub of_checked : Checked → Result
-of_checked a = only_answered (checked_number a) (checked_values a)
-
-abbrev pub of_reading : Reading → Result
-of_reading a = only_answered (reading_number a) (reading_values a)
-
-abbrev pub of_checkup : Checkup → Result
-of_checkup a = only_answered (checkup_number a) (checkup_value a ∷ [])
-
-abbrev pub of_measured : Measured → Result
-of_measured a = only_answered (measured_number a) (measured_value a ∷ [])
+abbrev pub of_params : Result Params Refusal → Outcome
+of_params a = only_answered (answer_number a) (answer_values a)
 
 -- of a call that is lent s
-abbrev pub of_outcome : List ℕ → Left Outcome → Result
-of_outcome s l = record { refusal = outcome_number l.answer; beside = []; lent = s; left = l.image }
+abbrev pub of_outcome : List ℕ → Left (Result (Unit {0}) Refusal) → Outcome
+of_outcome s l = record { refusal = answer_number l.answer; beside = []; lent = s; left = l.image }
 
-abbrev pub of_written : List ℕ → Left Written → Result
+abbrev pub of_written : List ℕ → Left (Result Accepted Refused) → Outcome
 of_written s l =
     record {
       refusal = written_number l.answer;
@@ -242,8 +227,8 @@ of_written s l =
       left = l.image;
     }
 
-abbrev pub of_imported : List ℕ → Left Imported → Result
-of_imported s l = record { refusal = imported_number l.answer; beside = imported_value l.answer ∷ []; lent = s; left = l.image }
+abbrev pub of_imported : List ℕ → Left (Result ℕ Refusal) → Outcome
+of_imported s l = record { refusal = answer_number l.answer; beside = answer_value l.answer ∷ []; lent = s; left = l.image }
 
 -- ---- the demand
 
@@ -252,7 +237,7 @@ pub data Zeros : List ℕ → Type 0 where
   one_more : {l : List ℕ} → Zeros l → Zeros (0 ∷ l)
 
 -- of a call whose refusals stand in this order
-pub record RefusesInOrder (order : List Test) (c : Result) : Type 0 where
+pub record RefusesInOrder (order : List Test) (c : Outcome) : Type 0 where
   -- "get the refusal that the documents name, in their order": the first that is due, and none where none is due
   pub first : c.refusal ≡ first_due order
   -- "A refusal carries its number": one of the table, 0 where there is none
@@ -268,13 +253,13 @@ distance_due k n b = choose (eqb k (number_of Stale)) (distance n b) (choose (eq
 
 -- "Every call accepts every input": each of the calls, with any numbers and any slices
 pub record Demand1 : Type 0 where
-  pub product : (p u v : ℕ) → RefusesInOrder (product_order p u v) (of_element (product_answer p u v))
-  pub divide : (p s a b : ℕ) → RefusesInOrder (divide_order p s a b) (of_element (divide_answer p s a b))
-  pub parameters : (p k r b : ℕ) → RefusesInOrder (params_then p k r b []) (of_checked (checked_of p k r b))
-  pub read : (s : List ℕ) → RefusesInOrder (reading_then s []) (of_reading (read_of s))
+  pub product : (p u v : ℕ) → RefusesInOrder (product_order p u v) (of_word (product_answer p u v))
+  pub divide : (p s a b : ℕ) → RefusesInOrder (divide_order p s a b) (of_word (divide_answer p s a b))
+  pub parameters : (p k r b : ℕ) → RefusesInOrder (params_then p k r b []) (of_params (checked_of p k r b))
+  pub read : (s : List ℕ) → RefusesInOrder (reading_then s []) (of_params (read_of s))
   pub make : (p k r b : ℕ) (d s : List ℕ) → RefusesInOrder (make_order p k r b d s) (of_outcome s (make_of p k r b d s))
   pub refill : (s : List ℕ) → RefusesInOrder (reading_then s []) (of_outcome s (refill_of s))
-  pub check : (s : List ℕ) → RefusesInOrder (reading_then s []) (of_checkup (check_of s))
+  pub check : (s : List ℕ) → RefusesInOrder (reading_then s []) (of_word (check_of s))
   pub write : (s : List ℕ) (i t b : ℕ) (v : List ℕ) → RefusesInOrder (write_order s i t b v) (of_written s (write_of s i t b v))
   pub away : (s : List ℕ) (m i t b : ℕ) (v : List ℕ) → RefusesInOrder (away_order s m i t b v) (of_written s (away_of s m i t b v))
   pub rebuild : (s : List ℕ) (m : ℕ) → RefusesInOrder (rebuild_order s m) (of_outcome s (rebuild_of s m))
@@ -282,8 +267,8 @@ pub record Demand1 : Type 0 where
   pub show : (s : List ℕ) (m n t room : ℕ) → RefusesInOrder (strip_order s m n t room) (only_answered (show_number s m n t room) [])
   pub export : (s : List ℕ) (n : ℕ) (t : List ℕ) → RefusesInOrder (export_order s n (length t)) (of_outcome t (export_of s n t))
   pub import : (s t : List ℕ) → RefusesInOrder (import_order s (length t)) (of_imported t (import_of s t))
-  pub file_length : (s : List ℕ) (n : ℕ) → RefusesInOrder (file_length_order s n []) (of_measured (file_length_of s n))
-  pub files_length : (s : List ℕ) → RefusesInOrder (all_files_then s []) (of_measured (files_length_of s))
+  pub file_length : (s : List ℕ) (n : ℕ) → RefusesInOrder (file_length_order s n []) (of_word (file_length_of s n))
+  pub files_length : (s : List ℕ) → RefusesInOrder (all_files_then s []) (of_word (files_length_of s))
   -- the distance of both writes
   pub write_distance : (s : List ℕ) (i t b : ℕ) (v : List ℕ) → let a = (write_of s i t b v).answer in written_distance a ≡ distance_due (written_number a) (revision_of s i) b
   pub away_distance : (s : List ℕ) (m i t b : ℕ) (v : List ℕ) → let a = (away_of s m i t b v).answer in written_distance a ≡ distance_due (written_number a) (revision_of s i) b

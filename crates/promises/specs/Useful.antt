@@ -3,9 +3,8 @@
 -- the last accepted write in each data strip, and parity by demand 2's definition. One that invents the count breaks the pairs (j, q).": the rules that
 -- these break, over any program; demand 2's for rebuild is `Rebuilds`.
 -- Assumes nothing.
-use Rattle.std.specs.Prelude.{ℕ, ◌<◌, ◌^◌, List, ◌≡◌, get_or}
+use Rattle.std.specs.Prelude.{ℕ, ◌<◌, ◌^◌, List, ◌≡◌, get_or, Ok}
 use Rattle.stripe.specs.declared.Params.{Params}
-use Rattle.stripe.specs.declared.Reading.TheVariants.{Stripe}
 use Rattle.stripe.specs.Layout.{rows, revision_of, data_byte, parity_byte}
 use Rattle.stripe.specs.Reading.{read_of}
 use Rattle.block.specs.Parity.{due, Right}
@@ -20,7 +19,7 @@ use Rattle.promises.specs.Demand3.{Answer, is_accepted, RevisionBytes, ExactlyRe
 module _ (told : List ℕ → Write → Answer) (left : List ℕ → Write → List ℕ) where
   -- "demand 3's exact refusal rule"
   abbrev pub RefusesExactly : Type 0
-  RefusesExactly = (s : List ℕ) (q : Params) (w : Write) → read_of s ≡ Stripe q → RevisionBytes s q → ExactlyRefused told q s w
+  RefusesExactly = (s : List ℕ) (q : Params) (w : Write) → read_of s ≡ Ok q → RevisionBytes s q → ExactlyRefused told q s w
 
   -- "the new bytes and revision above": "puts the new strip in place", "sets the revision to (b + 1) mod 2^32"
   abbrev pub PutsNewBytes : Type 0
@@ -34,12 +33,12 @@ module _ (told : List ℕ → Write → Answer) (left : List ℕ → Write → L
   last_byte s q es i t x = byte_of (last_accepted is_accepted i t (image_log told left s es)) (data_byte s q i t x) x
 
   abbrev pub HoldsLastWrites : Type 0
-  HoldsLastWrites = (s : List ℕ) (q : Params) (es : List Entry) → read_of s ≡ Stripe q → RevisionBytes s q
+  HoldsLastWrites = (s : List ℕ) (q : Params) (es : List Entry) → read_of s ≡ Ok q → RevisionBytes s q
       → (i t x : ℕ) → i < q.k → t < rows q → x < q.b → data_byte (image_last told left s es) q i t x ≡ last_byte s q es i t x
 
   -- "and parity by demand 2's definition": where it was right before
   abbrev pub HoldsLastParity : Type 0
-  HoldsLastParity = (s : List ℕ) (q : Params) (es : List Entry) → read_of s ≡ Stripe q → RevisionBytes s q → Right s q
+  HoldsLastParity = (s : List ℕ) (q : Params) (es : List Entry) → read_of s ≡ Ok q → RevisionBytes s q → Right s q
       → (j t x : ℕ) → j < q.r → t < rows q → x < q.b → parity_byte (image_last told left s es) q j t x ≡ due q (last_byte s q es) j t x
 
   -- "the pairs (j, q)": the count is the number of those that the strip touches
@@ -48,7 +47,7 @@ module _ (told : List ℕ → Write → Answer) (left : List ℕ → Write → L
 
   -- request 2: the distance is how far the base is behind or ahead
   abbrev pub TellsDistance : Type 0
-  TellsDistance = (s : List ℕ) (q : Params) (w : Write) → read_of s ≡ Stripe q → RevisionBytes s q → w.base < 2 ^ 32 → SaysDistance s w (told s w)
+  TellsDistance = (s : List ℕ) (q : Params) (w : Write) → read_of s ≡ Ok q → RevisionBytes s q → w.base < 2 ^ 32 → SaysDistance s w (told s w)
 
   -- all of them
   pub record Useful : Type 0 where

@@ -8,16 +8,14 @@ use native.Mathlib.Nat.{add_comm}
 use native.Mathlib.Omega.{arith}
 use lib.ListN.{drop, length, take}
 use borrow.Author.Tests.{le-ltb, lt-ltb}
+use Rattle.std.specs.Prelude.{Result, Ok, Err}
 use Rattle.laws.specs.Choose.{choose}
 use Rattle.laws.specs.Part.{part}
 use Rattle.stripe.proofs.Places.{parity_in, parity_strip_in, parity_strip_small, strip_in, strip_small}
 use Rattle.stripe.specs.Layout.{parity_strip_at, strip_at}
-use Rattle.refusal.specs.Number.{number_of}
-use Rattle.stripe.specs.Reading.{reading_number}
+use Rattle.refusal.specs.Number.{number_of, answer_number}
 use Rattle.refusal.specs.declared.Refusal.{Refusal}
 use Rattle.stripe.specs.declared.Params.{Params}
-use Rattle.stripe.specs.declared.Reading.{Reading}
-use Rattle.stripe.specs.declared.Reading.TheVariants.{Stripe, Refused as Unread}
 use Rattle.pattern.proofs.Asking.{asked_sound}
 use Rattle.rebuild.specs.Answer.{show_number, shown, shown_asked, shown_asked_at, shown_at}
 use Rattle.pattern.specs.Inner.{Cell}
@@ -49,8 +47,8 @@ module _ (q : Params) (n t x : ℕ) (c : Cell q n t) where
 
 -- ---- what is shown
 
-module _ (s c : List ℕ) (m n t : ℕ) (w : Reading) (e : w ≡ asked s m n t (length c)) where
-  module _ (x : Refusal) (f : w ≡ Unread x) where
+module _ (s c : List ℕ) (m n t : ℕ) (w : Result Params Refusal) (e : w ≡ asked s m n t (length c)) where
+  module _ (x : Refusal) (f : w ≡ Err x) where
     pub shown_refused : [] ≡ shown s m n t c
     unfolding shown shown_asked
     shown_refused = ap (shown_asked s m n t c) (sym f ∙ e)
@@ -61,12 +59,12 @@ module _ (s c : List ℕ) (m n t : ℕ) (w : Reading) (e : w ≡ asked s m n t (
 
     pub number_refused : (v : ℕ) → v ≡ number_of x → v ≡ show_number s m n t (length c)
     unfolding show_number
-    number_refused v g = g ∙ ap reading_number (sym f ∙ e)
+    number_refused v g = g ∙ ap answer_number (sym f ∙ e)
 
-  module _ (q : Params) (f : w ≡ Stripe q) where
+  module _ (q : Params) (f : w ≡ Ok q) where
     pub number_none : 0 ≡ show_number s m n t (length c)
     unfolding show_number
-    number_none = ap reading_number (sym f ∙ e)
+    number_none = ap answer_number (sym f ∙ e)
 
     module _ (l : Bool) (g : l ≡ is_lost m n) where
       module _ (h : l ≡ true) where

@@ -1,6 +1,6 @@
 -- "Numbers of refusal": the table of document 01. "A refusal carries its number"; 0 is kept for an answer that is none.
 -- Assumes nothing.
-use Rattle.std.specs.Prelude.{ℕ}
+use Rattle.std.specs.Prelude.{ℕ, Result, Ok, Err}
 use Rattle.refusal.specs.declared.Refusal.{Refusal}
 use Rattle.refusal.specs.declared.Refusal.TheVariants.{Cut, Tail, Count, Prime, Shape, Strip, Width, Column, Row, Stale, Ahead, Many, Room, Long, Exponent, Element, Unclear, Foreign, Twice}
 
@@ -43,3 +43,12 @@ number_of Unclear = 17
 number_of Foreign = 18
 -- request 4: "a column met again"
 number_of Twice = 19
+
+-- "A refusal carries its number; every number beside it is 0": the number of an answer, and the word or the length that it gives
+abbrev pub answer_number : {A : Type 0} → Result A Refusal → ℕ
+answer_number (Ok x) = 0
+answer_number (Err e) = number_of e
+
+abbrev pub answer_value : Result ℕ Refusal → ℕ
+answer_value (Ok x) = x
+answer_value (Err e) = 0

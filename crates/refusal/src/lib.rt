@@ -27,13 +27,6 @@ pub enum Refusal {
     Twice = 19,
 }
 
-// Done, or the refusal.
-#[derive(Clone, Copy)]
-pub enum Outcome {
-    Done,
-    Refused(Refusal),
-}
-
 impl Refusal {
     // The number that the documents give the refusal.
     pub fn number(self) -> u64

@@ -11,6 +11,7 @@ use lib.Dec.{eqb}
 use lib.ListN.{length, take, length-take}
 use lib.Seq.{take_all}
 use borrow.Author.Tests.{lt-ltb, le-ltb}
+use Rattle.std.specs.Prelude.{Result, Ok, Err}
 use Rattle.laws.specs.Choose.{choose}
 use Rattle.laws.specs.Number.{u32}
 use Rattle.refusal.specs.Number.{number_of}
@@ -19,14 +20,10 @@ use Rattle.refusal.specs.declared.Refusal.TheVariants.{Long}
 use Rattle.std.specs.Fmt.{decimal}
 use Rattle.stripe.proofs.Frame.{read_image}
 use Rattle.stripe.specs.Layout.{revision_at}
-use Rattle.stripe.specs.Reading.{read_of, refusal_given}
+use Rattle.stripe.specs.Reading.{read_of}
 use Rattle.stripe.specs.declared.Params.{Params}
-use Rattle.stripe.specs.declared.Reading.{Reading}
-use Rattle.stripe.specs.declared.Reading.TheVariants.{Stripe, Refused as Unread}
 use Rattle.parity.proofs.Rightness.{check_at}
 use Rattle.parity.specs.Answer.{parity_right, wrong_parities, check_of, check_read}
-use Rattle.parity.specs.declared.Checkup.{Checkup}
-use Rattle.parity.specs.declared.Checkup.TheVariants.{Wrong, Refused as Unchecked}
 use Rattle.texts.proofs.Digits.{decimal_text}
 use Rattle.texts.specs.Text.{text, spaced, bytes, line_end}
 use Rattle.reporting.specs.Inner.{is_clear}
@@ -70,25 +67,25 @@ stripe_text q h l m o = rw (decimal_text q.p h, decimal_text q.k l, decimal_text
 
 -- ---- after reading: v is what the reading gave
 
-module _ (s : List ℕ) (v : Reading) (a : v ≡ read_of s) where
-  pub lines_refused : (e : Refusal) → v ≡ Unread e → refused_line (refusal_given v) ≡ lines_of s
+module _ (s : List ℕ) (v : Result Params Refusal) (a : v ≡ read_of s) where
+  pub lines_refused : (e : Refusal) → v ≡ Err e → refused_line e ≡ lines_of s
   unfolding lines_of read_lines
-  lines_refused e g = rw (g, ← a, g) refl
+  lines_refused e g = rw (← a, g) refl
 
-  module _ (q : Params) (f : v ≡ Stripe q) where
+  module _ (q : Params) (f : v ≡ Ok q) where
     pub parity_few : q.r ≤ 61
     parity_few = let i = read_image s q v a f in omega (arith, i.admitted.fits, i.admitted.p_high)
 
-    checked : (c : Checkup) → c ≡ check_of s → c ≡ Wrong (wrong_parities s q)
+    checked : (c : Result ℕ Refusal) → c ≡ check_of s → c ≡ Ok (wrong_parities s q)
     unfolding check_of check_read
     checked c g = g ∙ ap (check_read s) (sym a ∙ f)
 
     -- an image that was read is not refused by check
-    pub never_unchecked : (e : Refusal) (c : Checkup) → c ≡ check_of s → c ≡ Unchecked e → ⊥
+    pub never_unchecked : (e : Refusal) (c : Result ℕ Refusal) → c ≡ check_of s → c ≡ Err e → ⊥
     never_unchecked e c g h = let k = checked c g in let z : ◌≡◌ {A = ℕ} 0 1 = cc in omega arith
 
     -- the bits of check's word are the parities that are right
-    found : (w : ℕ) (c : Checkup) → c ≡ check_of s → c ≡ Wrong w → w ≡ wrong_parities s q
+    found : (w : ℕ) (c : Result ℕ Refusal) → c ≡ check_of s → c ≡ Ok w → w ≡ wrong_parities s q
     found w c g h = let k = checked c g in cc
 
     clear_right : (j : ℕ) → j < q.r → is_clear (wrong_parities s q) j ≡ parity_right s q j
@@ -99,13 +96,13 @@ module _ (s : List ℕ) (v : Reading) (a : v ≡ read_of s) where
         told true = refl
         told false = refl
 
-    parities_told : (w : ℕ) (c : Checkup) → c ≡ check_of s → c ≡ Wrong w → lines q.r (parity_line (is_clear w)) ≡ lines q.r (parity_line (parity_right s q))
+    parities_told : (w : ℕ) (c : Result ℕ Refusal) → c ≡ check_of s → c ≡ Ok w → lines q.r (parity_line (is_clear w)) ≡ lines q.r (parity_line (parity_right s q))
     unfolding parity_line
     parities_told w c g h =
         lines_same q.r (parity_line (is_clear w)) (parity_line (parity_right s q))
         (λ j k. ap (λ (b : Bool). bytes "parity" ++ (spaced (text j) ++ (spaced (verdict b) ++ line_end))) (ap (λ (u : ℕ). is_clear u j) (found w c g h) ∙ clear_right j k))
 
-    pub lines_told : (w : ℕ) (c : Checkup) → c ≡ check_of s → c ≡ Wrong w → (t : List ℕ) → t ≡ stripe_line q
+    pub lines_told : (w : ℕ) (c : Result ℕ Refusal) → c ≡ check_of s → c ≡ Ok w → (t : List ℕ) → t ≡ stripe_line q
         → t ++ (lines q.k (data_line s) ++ lines q.r (parity_line (is_clear w))) ≡ lines_of s
     unfolding lines_of read_lines
     lines_told w c g h t e = rw (e, parities_told w c g h, ← a, f) refl

@@ -7,6 +7,7 @@ use mathlib.Core.Path.{◌≡◌, refl}
 use native.Mathlib.Decide.{dec_lt}
 use native.Mathlib.Omega.{arith}
 use lib.ListN.{length, length-append}
+use Rattle.std.specs.Prelude.{Result, Ok, Err}
 use Rattle.refusal.specs.Number.{number_of}
 use Rattle.refusal.specs.declared.Refusal.{Refusal}
 use Rattle.refusal.specs.declared.Refusal.TheVariants.{Long}
@@ -14,8 +15,6 @@ use Rattle.stripe.proofs.Frame.{read_image}
 use Rattle.stripe.specs.Layout.{revision_of}
 use Rattle.stripe.specs.Reading.{read_of}
 use Rattle.stripe.specs.declared.Params.{Params}
-use Rattle.stripe.specs.declared.Reading.{Reading}
-use Rattle.stripe.specs.declared.Reading.TheVariants.{Stripe, Refused as Unread}
 use Rattle.parity.specs.Answer.{parity_right}
 use Rattle.texts.proofs.Digits.{text_short}
 use Rattle.texts.specs.Text.{text, spaced, bytes, line_end}
@@ -46,11 +45,11 @@ unfolding lines
 lines_fit zero line h = omega arith
 lines_fit (suc n) line h = omega (arith, length-append (lines n line) (line n), lines_fit n line h, h n)
 
-read_fits : (s : List ℕ) (v : Reading) → v ≡ read_of s → length (read_lines s v) ≤ report_room
+read_fits : (s : List ℕ) (v : Result Params Refusal) → v ≡ read_of s → length (read_lines s v) ≤ report_room
 unfolding read_lines
-read_fits s (Unread e) a = omega (arith, refused_fits e)
-read_fits s (Stripe q) a =
-    let i = read_image s q (Stripe q) a refl in
+read_fits s (Err e) a = omega (arith, refused_fits e)
+read_fits s (Ok q) a =
+    let i = read_image s q (Ok q) a refl in
     let d = lines q.k (data_line s) in
     let w = lines q.r (parity_line (parity_right s q)) in
     omega (

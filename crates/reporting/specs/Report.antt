@@ -1,6 +1,6 @@
 -- "Report program": the bytes that it prints for its input, whole.
 -- Assumes nothing.
-use Rattle.std.specs.Prelude.{ℕ, zero, suc, Bool, true, false, List, [], ◌++◌, ltb, length}
+use Rattle.std.specs.Prelude.{ℕ, zero, suc, Bool, true, false, List, [], ◌++◌, ltb, length, Result, Ok, Err}
 use Rattle.laws.specs.Choose.{choose}
 use Rattle.refusal.specs.Number.{number_of}
 use Rattle.refusal.specs.declared.Refusal.{Refusal}
@@ -8,8 +8,6 @@ use Rattle.refusal.specs.declared.Refusal.TheVariants.{Long}
 use Rattle.stripe.specs.Layout.{revision_of}
 use Rattle.stripe.specs.Reading.{read_of}
 use Rattle.stripe.specs.declared.Params.{Params}
-use Rattle.stripe.specs.declared.Reading.{Reading}
-use Rattle.stripe.specs.declared.Reading.TheVariants.{Stripe, Refused as Unread}
 use Rattle.parity.specs.Answer.{parity_right}
 use Rattle.texts.specs.Text.{text, spaced, bytes, line_end}
 
@@ -45,9 +43,9 @@ abbrev pub image_lines : List ℕ → Params → List ℕ
 image_lines s q = stripe_line q ++ (lines q.k (data_line s) ++ lines q.r (parity_line (parity_right s q)))
 
 -- "If refused, it prints `refused N`"; "Otherwise it prints .."
-unfoldable pub read_lines : List ℕ → Reading → List ℕ
-read_lines s (Unread e) = refused_line e
-read_lines s (Stripe q) = image_lines s q
+unfoldable pub read_lines : List ℕ → Result Params Refusal → List ℕ
+read_lines s (Err e) = refused_line e
+read_lines s (Ok q) = image_lines s q
 
 -- the report of an image of any length: the depot's command `report` has no limit
 unfoldable pub lines_of : List ℕ → List ℕ

@@ -10,11 +10,10 @@ ghost use Rattle.reporting.specs.Inner.{is_clear};
 ghost use Rattle.reporting.specs.Report.{verdict, lines, data_line, parity_line, lines_of, report_of};
 
 use arrayvec::ArrayVec;
-use parity::Checkup;
 use refusal::Refusal;
 use std::io::{Read, Write};
 use std::{fmt, io};
-use stripe::{Params, Reading};
+use stripe::Params;
 
 // The longest input that is taken.
 const LONGEST: usize = 65536;
@@ -70,12 +69,12 @@ impl fmt::Display for ImageReport<'_> {
 
     fn fmt<W: fmt::Write>(&self, f: &mut fmt::Formatter<W>) -> fmt::Result {
         let image = self.0;
-        let reading = stripe::read(image);
-        let Reading::Stripe(q) = reading else {
-            return writeln!(f, "refused {}", reading.refusal().number());
+        let q = match stripe::read(image) {
+            Ok(q) => q,
+            Err(e) => return writeln!(f, "refused {}", e.number()),
         };
         // Check refuses no image that reading accepts.
-        let Checkup::Wrong(wrong) = parity::check(image) else {
+        let Ok(wrong) = parity::check(image) else {
             unreachable!();
         };
         writeln!(f, "stripe {} {} {} {}", q.p, q.k, q.r, q.b)?;

@@ -12,6 +12,7 @@ use lib.Dec.{eqb, T, leb, leb→le}
 use lib.Pow.{pow_pos, split}
 use Rattle.std.proofs.lemmas.Nat.{mod-pow-add}
 use borrow.Author.Tests.{le-ltb, lt-ltb, eq-eqb, ne_eqb}
+use Rattle.std.specs.Prelude.{Ok, Err}
 use Rattle.laws.proofs.Choose.{true_T, and_left, and_right}
 use Rattle.laws.specs.Bit.{weight, bit}
 use Rattle.algebra.proofs.Words.{element_below}
@@ -21,7 +22,6 @@ use Rattle.refusal.specs.declared.Refusal.TheVariants.{Prime, Exponent, Element 
 use Rattle.stripe.specs.Params.{admitted_prime}
 use Rattle.ring.specs.Answer.{product_answer, divide_answer, different}
 use Rattle.ring.specs.Ring.{Divisible, Factor}
-use Rattle.ring.specs.declared.Element.TheVariants.{Word, Refused}
 
 -- the bits of a word below n, counted
 pub ones_below : (w n : ℕ) → ones (w % 2 ^ n) ≡ weight w n
@@ -86,52 +86,52 @@ module _ (p : ℕ) (t : Bool) (e : t ≡ admitted_prime p) (f : t ≡ true) wher
 -- ---- the ways out of `product` and `divide`
 
 module _ (p u v : ℕ) (t : Bool) (e : t ≡ admitted_prime p) where
-  pub product_unprime : t ≡ false → Refused Prime ≡ product_answer p u v
+  pub product_unprime : t ≡ false → Err Prime ≡ product_answer p u v
   unfolding product_answer
   product_unprime f = simp (sym e ∙ f)
 
   module _ (f : t ≡ true) (c : Bool) (g : c ≡ element p u) where
-    pub product_first_odd : c ≡ false → Refused NotElement ≡ product_answer p u v
+    pub product_first_odd : c ≡ false → Err NotElement ≡ product_answer p u v
     unfolding product_answer
     product_first_odd h = simp (sym e ∙ f, sym g ∙ h)
 
     module _ (h : c ≡ true) (d : Bool) (i : d ≡ element p v) where
-      pub product_second_odd : d ≡ false → Refused NotElement ≡ product_answer p u v
+      pub product_second_odd : d ≡ false → Err NotElement ≡ product_answer p u v
       unfolding product_answer
       product_second_odd j = simp (sym e ∙ f, sym g ∙ h, sym i ∙ j)
 
-      pub product_found : d ≡ true → (w : ℕ) → w ≡ product_of p u v → Word w ≡ product_answer p u v
+      pub product_found : d ≡ true → (w : ℕ) → w ≡ product_of p u v → Ok w ≡ product_answer p u v
       unfolding product_answer
-      product_found j w k = simp (sym e ∙ f, sym g ∙ h, sym i ∙ j) (ap Word k)
+      product_found j w k = simp (sym e ∙ f, sym g ∙ h, sym i ∙ j) (ap Ok k)
 
 pub ruleset products = (product_unprime, product_first_odd, product_second_odd, product_found)
 
 module _ (p s a b : ℕ) (t : Bool) (e : t ≡ admitted_prime p) where
-  pub divide_unprime : t ≡ false → Refused Prime ≡ divide_answer p s a b
+  pub divide_unprime : t ≡ false → Err Prime ≡ divide_answer p s a b
   unfolding divide_answer
   divide_unprime f = simp (sym e ∙ f)
 
   module _ (f : t ≡ true) (c : Bool) (g : c ≡ element p s) where
-    pub divide_odd : c ≡ false → Refused NotElement ≡ divide_answer p s a b
+    pub divide_odd : c ≡ false → Err NotElement ≡ divide_answer p s a b
     unfolding divide_answer
     divide_odd h = simp (sym e ∙ f, sym g ∙ h)
 
     module _ (h : c ≡ true) where
-      pub divide_first_high : p ≤ a → Refused Exponent ≡ divide_answer p s a b
+      pub divide_first_high : p ≤ a → Err Exponent ≡ divide_answer p s a b
       unfolding divide_answer different
       divide_first_high i = simp (sym e ∙ f, sym g ∙ h, le-ltb a p i)
 
-      pub divide_second_high : a < p → p ≤ b → Refused Exponent ≡ divide_answer p s a b
+      pub divide_second_high : a < p → p ≤ b → Err Exponent ≡ divide_answer p s a b
       unfolding divide_answer different
       divide_second_high i j = simp (sym e ∙ f, sym g ∙ h, lt-ltb a p i, le-ltb b p j)
 
-      pub divide_alike : a < p → b < p → a ≡ b → Refused Exponent ≡ divide_answer p s a b
+      pub divide_alike : a < p → b < p → a ≡ b → Err Exponent ≡ divide_answer p s a b
       unfolding divide_answer different
       divide_alike i j k = simp (sym e ∙ f, sym g ∙ h, lt-ltb a p i, lt-ltb b p j, eq-eqb a b k)
 
-      pub divide_found : a < p → b < p → a ≢ b → (w : ℕ) → w ≡ over_of p a b s → Word w ≡ divide_answer p s a b
+      pub divide_found : a < p → b < p → a ≢ b → (w : ℕ) → w ≡ over_of p a b s → Ok w ≡ divide_answer p s a b
       unfolding divide_answer different
       divide_found i j k w l =
-          simp (sym e ∙ f, sym g ∙ h, lt-ltb a p i, lt-ltb b p j, ne_eqb a b k) (ap Word l)
+          simp (sym e ∙ f, sym g ∙ h, lt-ltb a p i, lt-ltb b p j, ne_eqb a b k) (ap Ok l)
 
 pub ruleset divides = (divide_unprime, divide_odd, divide_first_high, divide_second_high, divide_alike, divide_found)

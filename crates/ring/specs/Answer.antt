@@ -1,37 +1,27 @@
 -- "Ring: product of two even-weight words, and division of one by x^a + x^b. Order: PRIME, ELEMENT, EXPONENT."
 -- Assumes nothing.
-use Rattle.std.specs.Prelude.{ℕ, Bool, not, ◌&&◌, ltb, eqb}
+use Rattle.std.specs.Prelude.{ℕ, Bool, not, ◌&&◌, ltb, eqb, Result, Ok, Err}
 use Rattle.laws.specs.Choose.{choose}
 use Rattle.algebra.specs.Word.{element, product_of, over_of}
 use Rattle.refusal.specs.declared.Refusal.TheVariants.{Prime, Exponent, Element as NotElement}
 use Rattle.refusal.specs.Number.{number_of}
 use Rattle.stripe.specs.Params.{admitted_prime}
-use Rattle.ring.specs.declared.Element.{Element}
-use Rattle.ring.specs.declared.Element.TheVariants.{Word, Refused}
+use Rattle.refusal.specs.declared.Refusal.{Refusal}
 
 -- "a or b not below p, or a = b" is EXPONENT
 unfoldable pub different : ℕ → ℕ → ℕ → Bool
 different p a b = ltb a p && (ltb b p && not (eqb a b))
 
 -- the product of polynomials modulo x^p = 1
-unfoldable pub product_answer : ℕ → ℕ → ℕ → Element
+unfoldable pub product_answer : ℕ → ℕ → ℕ → Result ℕ Refusal
 product_answer p u v =
     choose (admitted_prime p)
-    (choose (element p u) (choose (element p v) (Word (product_of p u v)) (Refused NotElement)) (Refused NotElement))
-    (Refused Prime)
+    (choose (element p u) (choose (element p v) (Ok (product_of p u v)) (Err NotElement)) (Err NotElement))
+    (Err Prime)
 
 -- the only even-weight c with (x^a + x^b)·c = s
-unfoldable pub divide_answer : ℕ → ℕ → ℕ → ℕ → Element
+unfoldable pub divide_answer : ℕ → ℕ → ℕ → ℕ → Result ℕ Refusal
 divide_answer p s a b =
     choose (admitted_prime p)
-    (choose (element p s) (choose (different p a b) (Word (over_of p a b s)) (Refused Exponent)) (Refused NotElement))
-    (Refused Prime)
-
--- "A refusal carries its number; every number beside it is 0"
-abbrev pub element_number : Element → ℕ
-element_number (Word w) = 0
-element_number (Refused e) = number_of e
-
-abbrev pub element_value : Element → ℕ
-element_value (Word w) = w
-element_value (Refused e) = 0
+    (choose (element p s) (choose (different p a b) (Ok (over_of p a b s)) (Err Exponent)) (Err NotElement))
+    (Err Prime)

@@ -12,13 +12,6 @@ ghost use Rattle.ring.specs.Answer.{product_answer, divide_answer};
 use refusal::Refusal;
 use stripe::Params;
 
-// What the two public calls answer.
-#[derive(Clone, Copy)]
-pub enum Element {
-    Word(u64),
-    Refused(Refusal),
-}
-
 // x^a · w
 #[tactic(auto, using(crate::proofs::Laws::rotated))]
 fn rotate(w: u64, a: usize, p: usize) -> u64
@@ -112,39 +105,39 @@ fn is_element(w: u64, p: usize) -> bool
 }
 
 // The product of two elements, for any numbers.
-pub fn product(p: usize, u: u64, v: u64) -> Element
+pub fn product(p: usize, u: u64, v: u64) -> Result<u64, Refusal>
     ensures { result ≡ product_answer p u v }
 {
     if !Params::admits(p) {
-        return Element::Refused(Refusal::Prime);
+        return Err(Refusal::Prime);
     }
     if !is_element(u, p) {
-        return Element::Refused(Refusal::Element);
+        return Err(Refusal::Element);
     }
     if !is_element(v, p) {
-        return Element::Refused(Refusal::Element);
+        return Err(Refusal::Element);
     }
-    Element::Word(multiply(u, v, p))
+    Ok(multiply(u, v, p))
 }
 
 // The element c with (x^a + x^b) · c = s, for any numbers.
-pub fn divide(p: usize, s: u64, a: usize, b: usize) -> Element
+pub fn divide(p: usize, s: u64, a: usize, b: usize) -> Result<u64, Refusal>
     ensures { result ≡ divide_answer p s a b }
 {
     if !Params::admits(p) {
-        return Element::Refused(Refusal::Prime);
+        return Err(Refusal::Prime);
     }
     if !is_element(s, p) {
-        return Element::Refused(Refusal::Element);
+        return Err(Refusal::Element);
     }
     if a >= p {
-        return Element::Refused(Refusal::Exponent);
+        return Err(Refusal::Exponent);
     }
     if b >= p {
-        return Element::Refused(Refusal::Exponent);
+        return Err(Refusal::Exponent);
     }
     if a == b {
-        return Element::Refused(Refusal::Exponent);
+        return Err(Refusal::Exponent);
     }
-    Element::Word(quotient(s, a, b, p))
+    Ok(quotient(s, a, b, p))
 }

@@ -7,6 +7,7 @@ use native.Mathlib.Omega.{arith}
 use lib.Dec.{leb, eqb, ltb, T, leb→le}
 use lib.ListN.{length, get_or}
 use borrow.Author.Tests.{le-leb, ltb-false, eqb-true}
+use Rattle.std.specs.Prelude.{Result, Ok, Err}
 use Rattle.laws.proofs.Choose.{and_left, and_right, true_T, T_true, choose_yes, choose_no}
 use Rattle.laws.specs.Number.{u16}
 use Rattle.laws.specs.Patch.{Patched}
@@ -19,11 +20,7 @@ use Rattle.stripe.proofs.Readings.{sections_read, whole}
 use Rattle.stripe.specs.Layout.{data_count_at, data_from, parity_count_at, parity_from, image_length}
 use Rattle.stripe.specs.Params.{admitted_prime, admitted_shape, admitted_strip, checked_of, Admitted}
 use Rattle.stripe.specs.Reading.{sections_of, with_params, read_of, Image}
-use Rattle.stripe.specs.declared.Checked.{Checked}
-use Rattle.stripe.specs.declared.Checked.TheVariants.{Sound, Refused}
 use Rattle.stripe.specs.declared.Params.{Params}
-use Rattle.stripe.specs.declared.Reading.{Reading}
-use Rattle.stripe.specs.declared.Reading.TheVariants.{Stripe, Refused as Unread}
 
 -- ---- sound parameters
 
@@ -43,8 +40,8 @@ shown p k r b x y z =
       b_high = leb→le b 512 (and_right (leb 1 b) _ z);
     }
 
-module _ (p k r b : ℕ) (v : Checked) (q : Params) (e : v ≡ checked_of p k r b) (f : v ≡ Sound q) where
-  not_refused : (n : Refusal) → v ≡ Refused n → ⊥
+module _ (p k r b : ℕ) (v : Result Params Refusal) (q : Params) (e : v ≡ checked_of p k r b) (f : v ≡ Ok q) where
+  not_refused : (n : Refusal) → v ≡ Err n → ⊥
   not_refused n g = let z : ◌≡◌ {A = ℕ} 0 1 = cc in omega arith
 
   tested : T (admitted_prime p) × T (admitted_shape p k r) × T (admitted_strip b) × (q ≡ record { p = p; k = k; r = r; b = b })
@@ -61,17 +58,17 @@ module _ (p k r b : ℕ) (v : Checked) (q : Params) (e : v ≡ checked_of p k r 
   pub checked_admitted : Admitted q
   checked_admitted = rw checked_params (shown p k r b tested.0 tested.1 tested.2)
 
-pub admitted_checked : (q : Params) → Admitted q → Sound q ≡ checked_of q.p q.k q.r q.b
+pub admitted_checked : (q : Params) → Admitted q → Ok q ≡ checked_of q.p q.k q.r q.b
 unfolding checked_of admitted_prime admitted_shape admitted_strip
 admitted_checked q a =
     simp (T_true (odd_prime q.p) a.prime, le-leb q.p 61 a.p_high, le-leb 1 q.k a.k_low, le-leb 1 q.r a.r_low, le-leb (q.k + q.r) q.p a.fits, le-leb 1 q.b a.b_low, le-leb q.b 512 a.b_high)
 
 -- ---- accepted images
 
-not_unread : (q : Params) (w : Reading) → w ≡ Stripe q → (n : Refusal) → w ≡ Unread n → ⊥
+not_unread : (q : Params) (w : Result Params Refusal) → w ≡ Ok q → (n : Refusal) → w ≡ Err n → ⊥
 not_unread q w e n f = let z : ◌≡◌ {A = ℕ} 0 1 = cc in omega arith
 
-sections_image : (s : List ℕ) (q h : Params) (w : Reading) → w ≡ Stripe q → Admitted h → u16 s 0 ≡ 4
+sections_image : (s : List ℕ) (q h : Params) (w : Result Params Refusal) → w ≡ Ok q → Admitted h → u16 s 0 ≡ 4
     → u16 s 2 ≡ h.p → u16 s 4 ≡ h.k → u16 s 6 ≡ h.r → u16 s 8 ≡ h.b → w ≡ sections_of s h → Image s q
 unfolding sections_of
 sections_image s q h w f o m np nk nr nb e =
@@ -95,15 +92,15 @@ sections_image s q h w f o m np nk nr nb e =
       r_there = eqb-true _ _ g.0;
     })
 
-with_image : (s : List ℕ) (q : Params) (v : Checked) (w : Reading) → w ≡ Stripe q → u16 s 0 ≡ 4 → v ≡ checked_of (u16 s 2) (u16 s 4) (u16 s 6) (u16 s 8) → w ≡ with_params s v → Image s q
+with_image : (s : List ℕ) (q : Params) (v : Result Params Refusal) (w : Result Params Refusal) → w ≡ Ok q → u16 s 0 ≡ 4 → v ≡ checked_of (u16 s 2) (u16 s 4) (u16 s 6) (u16 s 8) → w ≡ with_params s v → Image s q
 unfolding with_params
-with_image s q (Sound h) w f m e g =
-    let i = checked_params (u16 s 2) (u16 s 4) (u16 s 6) (u16 s 8) (Sound h) h e refl in
-    sections_image s q h w f (checked_admitted (u16 s 2) (u16 s 4) (u16 s 6) (u16 s 8) (Sound h) h e refl) m
+with_image s q (Ok h) w f m e g =
+    let i = checked_params (u16 s 2) (u16 s 4) (u16 s 6) (u16 s 8) (Ok h) h e refl in
+    sections_image s q h w f (checked_admitted (u16 s 2) (u16 s 4) (u16 s 6) (u16 s 8) (Ok h) h e refl) m
     (sym (ap (λ (x : Params). x.p) i)) (sym (ap (λ (x : Params). x.k) i)) (sym (ap (λ (x : Params). x.r) i)) (sym (ap (λ (x : Params). x.b) i)) g
-with_image s q (Refused n) w f m e g = absurd (not_unread q w f n g)
+with_image s q (Err n) w f m e g = absurd (not_unread q w f n g)
 
-pub read_image : (s : List ℕ) (q : Params) (w : Reading) → w ≡ read_of s → w ≡ Stripe q → Image s q
+pub read_image : (s : List ℕ) (q : Params) (w : Result Params Refusal) → w ≡ read_of s → w ≡ Ok q → Image s q
 unfolding read_of
 read_image s q w e f =
     let n = not_unread q w f in
@@ -112,9 +109,9 @@ read_image s q w e f =
     let c = choose_no (ltb (length s) 10) _ _ w (n Cut) b.1 in
     with_image s q _ w f (eqb-true _ _ b.0) refl c.1
 
-pub image_read : (s : List ℕ) (q : Params) → Image s q → Stripe q ≡ read_of s
+pub image_read : (s : List ℕ) (q : Params) → Image s q → Ok q ≡ read_of s
 image_read s q i =
-    sections_read s (u16 s 0) refl i.four (omega arith) (Sound q) (rw (i.p_at, i.k_at, i.r_at, i.b_at) (admitted_checked q i.admitted)) q (Stripe q) refl
+    sections_read s (u16 s 0) refl i.four (omega arith) (Ok q) (rw (i.p_at, i.k_at, i.r_at, i.b_at) (admitted_checked q i.admitted)) q (Ok q) refl
     (whole s q (image_length q) refl (omega arith) (omega arith) (u16 s 10) refl i.k_first
     (u16 s (data_count_at q)) (data_count_at q) refl refl i.k_again (u16 s (parity_count_at q)) (parity_count_at q) refl refl i.r_there)
 

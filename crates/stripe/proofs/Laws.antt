@@ -8,13 +8,13 @@ use native.Mathlib.Omega.{arith}
 use lib.Dec.{eqb, leb, ltb, T, leb→le}
 use borrow.Author.Tests.{le-leb}
 use Rattle.std.specs.List.{list_any}
+use Rattle.std.specs.Prelude.{Ok, Err}
 use Rattle.laws.proofs.Choose.{and_left, and_right, below_at}
 use Rattle.laws.specs.Choose.{below}
 use Rattle.algebra.proofs.Prime.{OddPrime, prime_is}
 use Rattle.algebra.specs.Prime.{odd_prime}
 use Rattle.refusal.specs.declared.Refusal.TheVariants.{Prime, Shape, Strip}
 use Rattle.stripe.specs.Params.{admitted_prime, admitted_shape, admitted_strip, checked_of}
-use Rattle.stripe.specs.declared.Checked.TheVariants.{Sound, Refused}
 
 untrue : (b : Bool) → (T b → ⊥) → false ≡ b
 untrue true n = absurd (n tt)
@@ -95,20 +95,20 @@ strip b f l = simp (le-leb 1 b f, le-leb b 512 l)
 -- ---- the ways out of `checked`: x, y and z are what the three tests gave
 
 module _ (p k r b : ℕ) (x : Bool) (e : x ≡ admitted_prime p) where
-  pub prime_refused : x ≡ false → Refused Prime ≡ checked_of p k r b
+  pub prime_refused : x ≡ false → Err Prime ≡ checked_of p k r b
   unfolding checked_of
   prime_refused h = simp (sym e ∙ h)
 
   module _ (o : x ≡ true) (y : Bool) (f : y ≡ admitted_shape p k r) where
-    pub shape_refused : y ≡ false → Refused Shape ≡ checked_of p k r b
+    pub shape_refused : y ≡ false → Err Shape ≡ checked_of p k r b
     unfolding checked_of
     shape_refused h = simp (sym e ∙ o, sym f ∙ h)
 
     module _ (n : y ≡ true) (z : Bool) (g : z ≡ admitted_strip b) where
-      pub strip_refused : z ≡ false → Refused Strip ≡ checked_of p k r b
+      pub strip_refused : z ≡ false → Err Strip ≡ checked_of p k r b
       unfolding checked_of
       strip_refused h = simp (sym e ∙ o, sym f ∙ n, sym g ∙ h)
 
-      pub sound : z ≡ true → Sound (record { p = p; k = k; r = r; b = b }) ≡ checked_of p k r b
+      pub sound : z ≡ true → Ok (record { p = p; k = k; r = r; b = b }) ≡ checked_of p k r b
       unfolding checked_of
       sound h = simp (sym e ∙ o, sym f ∙ n, sym g ∙ h)

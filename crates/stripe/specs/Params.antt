@@ -1,13 +1,12 @@
 -- "Admitted: p an odd prime from 3 to 61; k at least 1, r at least 1, k+r at most p; B from 1 to 512."
 -- Assumes nothing.
-use Rattle.std.specs.Prelude.{ℕ, ◌+◌, ◌≤◌, Bool, ◌&&◌, List, [], ◌∷◌, T, leb}
+use Rattle.std.specs.Prelude.{ℕ, ◌+◌, ◌≤◌, Bool, ◌&&◌, List, [], ◌∷◌, T, leb, Result, Ok, Err}
 use Rattle.laws.specs.Choose.{choose}
 use Rattle.algebra.specs.Prime.{odd_prime}
 use Rattle.refusal.specs.declared.Refusal.TheVariants.{Prime, Shape, Strip}
 use Rattle.refusal.specs.Number.{number_of}
 use Rattle.stripe.specs.declared.Params.{Params}
-use Rattle.stripe.specs.declared.Checked.{Checked}
-use Rattle.stripe.specs.declared.Checked.TheVariants.{Sound, Refused}
+use Rattle.refusal.specs.declared.Refusal.{Refusal}
 
 -- "p an odd prime from 3 to 61"
 unfoldable pub admitted_prime : ℕ → Bool
@@ -22,22 +21,18 @@ unfoldable pub admitted_strip : ℕ → Bool
 admitted_strip b = leb 1 b && leb b 512
 
 -- "PRIME; SHAPE; STRIP": the parameters, or the first of these refusals that is due
-unfoldable pub checked_of : ℕ → ℕ → ℕ → ℕ → Checked
+unfoldable pub checked_of : ℕ → ℕ → ℕ → ℕ → Result Params Refusal
 checked_of p k r b =
     choose (admitted_prime p)
     (choose (admitted_shape p k r)
-    (choose (admitted_strip b) (Sound (record { p = p; k = k; r = r; b = b })) (Refused Strip))
-    (Refused Shape))
-    (Refused Prime)
+    (choose (admitted_strip b) (Ok (record { p = p; k = k; r = r; b = b })) (Err Strip))
+    (Err Shape))
+    (Err Prime)
 
--- "A refusal carries its number; every number beside it is 0": the number of an answer, and its values p, k, r, B
-abbrev pub checked_number : Checked → ℕ
-checked_number (Sound q) = 0
-checked_number (Refused e) = number_of e
-
-abbrev pub checked_values : Checked → List ℕ
-checked_values (Sound q) = q.p ∷ q.k ∷ q.r ∷ q.b ∷ []
-checked_values (Refused e) = 0 ∷ 0 ∷ 0 ∷ 0 ∷ []
+-- "every number beside it is 0": the values p, k, r, B of an answer
+abbrev pub answer_values : Result Params Refusal → List ℕ
+answer_values (Ok q) = q.p ∷ q.k ∷ q.r ∷ q.b ∷ []
+answer_values (Err e) = 0 ∷ 0 ∷ 0 ∷ 0 ∷ []
 
 -- what is known of parameters that were found sound
 pub record Admitted (q : Params) : Type 0 where

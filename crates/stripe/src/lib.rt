@@ -5,7 +5,7 @@ ghost use Rattle.std.specs.Prelude.{◌≡◌, ◌+◌, ◌*◌, ◌<◌, ◌≤
 ghost use Rattle.laws.specs.Number.{u16, u32, put16, put32};
 ghost use Rattle.stripe.specs.Params.{admitted_prime, admitted_shape, admitted_strip, checked_of, Admitted};
 ghost use Rattle.stripe.specs.Layout.{rows, column_length, revision_at, data_at, strip_at, parity_at, parity_strip_at, image_length};
-ghost use Rattle.stripe.specs.Reading.{sections_of, read_of, refusal_given};
+ghost use Rattle.stripe.specs.Reading.{sections_of, read_of};
 ghost use Rattle.stripe.specs.Sections.{numbers_at, sixteen, three, opening, PutIn, Fits, image_of, revisions_in, columns_in, parities_in};
 
 use refusal::Refusal;
@@ -17,32 +17,6 @@ pub struct Params {
     pub k: usize,
     pub r: usize,
     pub b: usize,
-}
-
-// Parameters that were found sound, or the refusal that is due.
-#[derive(Clone, Copy)]
-pub enum Checked {
-    Sound(Params),
-    Refused(Refusal),
-}
-
-// The parameters of an accepted image, or the refusal that is due.
-#[derive(Clone, Copy)]
-pub enum Reading {
-    Stripe(Params),
-    Refused(Refusal),
-}
-
-impl Reading {
-    // The refusal of a reading; CUT where there is none.
-    pub fn refusal(self) -> Refusal
-        ensures { result ≡ refusal_given self }
-    {
-        match self {
-            Reading::Stripe(_) => Refusal::Cut,
-            Reading::Refused(e) => e,
-        }
-    }
 }
 
 impl Params {
@@ -94,19 +68,19 @@ impl Params {
     }
 
     // The parameters, or the first refusal that is due: PRIME, SHAPE, STRIP.
-    pub fn checked(p: usize, k: usize, r: usize, b: usize) -> Checked
+    pub fn checked(p: usize, k: usize, r: usize, b: usize) -> Result<Params, Refusal>
         ensures { result ≡ checked_of p k r b }
     {
         if !Params::admits(p) {
-            return Checked::Refused(Refusal::Prime);
+            return Err(Refusal::Prime);
         }
         if !Params::admits_shape(p, k, r) {
-            return Checked::Refused(Refusal::Shape);
+            return Err(Refusal::Shape);
         }
         if !Params::admits_strip(b) {
-            return Checked::Refused(Refusal::Strip);
+            return Err(Refusal::Strip);
         }
-        Checked::Sound(Params { p, k, r, b })
+        Ok(Params { p, k, r, b })
     }
 
     // The bytes of a column.
@@ -252,7 +226,7 @@ pub fn numbers(s: &[u8], at: usize) -> Params
 }
 
 // The test of the parameters behind the count at a place.
-pub fn parameters(s: &[u8], at: usize) -> Checked
+pub fn parameters(s: &[u8], at: usize) -> Result<Params, Refusal>
     requires { at + 10 ≤ length s.now }
     ensures { result ≡ checked_of (u16 s.now (at + 2)) (u16 s.now (at + 4)) (u16 s.now (at + 6)) (u16 s.now (at + 8)) }
 {
@@ -261,46 +235,42 @@ pub fn parameters(s: &[u8], at: usize) -> Checked
 }
 
 // The reading of an image whose parameters are sound: its length, and the counts of sections 2, 3 and 4.
-fn sections(image: &[u8], q: Params) -> Reading
+fn sections(image: &[u8], q: Params) -> Result<Params, Refusal>
     requires { Admitted q }
     ensures { result ≡ sections_of image.now q }
 {
     let k = q.k;
     let total = q.image_length();
     if image.len() < total {
-        return Reading::Refused(Refusal::Cut);
+        return Err(Refusal::Cut);
     }
     if image.len() > total {
-        return Reading::Refused(Refusal::Tail);
+        return Err(Refusal::Tail);
     }
     if number(image, 10) != k {
-        return Reading::Refused(Refusal::Count);
+        return Err(Refusal::Count);
     }
     if number(image, q.revision_at(k)) != k {
-        return Reading::Refused(Refusal::Count);
+        return Err(Refusal::Count);
     }
     if number(image, q.data_at(k)) != q.r {
-        return Reading::Refused(Refusal::Count);
+        return Err(Refusal::Count);
     }
-    Reading::Stripe(q)
+    Ok(q)
 }
 
 // The parameters of an accepted image, or the first refusal that is due.
-pub fn read(image: &[u8]) -> Reading
+pub fn read(image: &[u8]) -> Result<Params, Refusal>
     ensures { result ≡ read_of image.now }
 {
     if image.len() < 2 {
-        return Reading::Refused(Refusal::Cut);
+        return Err(Refusal::Cut);
     }
     if number(image, 0) != 4 {
-        return Reading::Refused(Refusal::Count);
+        return Err(Refusal::Count);
     }
     if image.len() < 10 {
-        return Reading::Refused(Refusal::Cut);
+        return Err(Refusal::Cut);
     }
-    let checked = parameters(image, 0);
-    match checked {
-        Checked::Sound(q) => sections(image, q),
-        Checked::Refused(e) => Reading::Refused(e),
-    }
+    sections(image, parameters(image, 0)?)
 }

@@ -4,6 +4,7 @@ use Prim.Native.Nat.{ℕ, ◌+◌, ◌*◌, ◌/◌, ◌%◌}
 use mathlib.Core.List.{List}
 use mathlib.Core.Path.{◌≡◌, ap, ap₂, ◌∙◌, fun_ext}
 use lib.ListN.{get_or}
+use Rattle.std.specs.Prelude.{Ok}
 use Rattle.laws.specs.Bit.{bit}
 use Rattle.laws.specs.Number.{put32}
 use Rattle.laws.specs.Part.{put}
@@ -15,7 +16,6 @@ use Rattle.stripe.specs.declared.Params.{Params}
 use Rattle.block.specs.Touches.{touches}
 use Rattle.revision.specs.Revision.{renewed}
 use Rattle.revision.specs.declared.Age.TheVariants.{Current}
-use Rattle.write.specs.declared.Written.TheVariants.{Accepted}
 use Rattle.present.specs.Present.{present_moved, present_placed, present_written}
 use Rattle.pattern.proofs.Single.{none_lost}
 use Rattle.present.proofs.Empty.{word_none, count_none}
@@ -47,5 +47,5 @@ written_none s q i t b v =
 pub none_settled : (s u : List ℕ) (q : Params) (i t b : ℕ) (v : List ℕ) (n : ℕ) → Placed s u q 0 i t v n → settled u i b n ≡ write_judged s q i t b v Current
 unfolding write_judged settled written
 none_settled s u q i t b v n P =
-    ap₂ (λ (c : ℕ) (l : List ℕ). record { answer = Accepted (renewed b) c; image = put32 l (revision_at i) (renewed b) }) (P.counted ∙ count_none q i t)
+    ap₂ (λ (c : ℕ) (l : List ℕ). record { answer = Ok (record { revision = renewed b; count = c }); image = put32 l (revision_at i) (renewed b) }) (P.counted ∙ count_none q i t)
     (P.bytes ∙ ap (λ (l : List ℕ). put l (strip_at q i t) v) (parity_none s q i t v))

@@ -7,6 +7,7 @@ use native.Mathlib.Nat.{mod-lt}
 use native.Mathlib.Omega.{arith}
 use lib.Bits.{bit_xor}
 use lib.ListN.{length, get_or, set}
+use Rattle.std.specs.Prelude.{Result, Ok}
 use Rattle.laws.specs.Left.{Left, Leaves}
 use Rattle.laws.proofs.Part.{length_put}
 use Rattle.laws.proofs.Patch.{patch_front, patch_all, is_patch, patch_by, patched}
@@ -23,12 +24,12 @@ use Rattle.stripe.specs.declared.Params.{Params}
 use Rattle.revision.specs.Revision.{renewed}
 use Rattle.revision.specs.declared.Age.TheVariants.{Current}
 use Rattle.write.proofs.Empty.{none_settled}
-use Rattle.write.specs.declared.Written.{Written}
 use Rattle.present.specs.Present.{present_word, present_moved, present_count}
 use Rattle.present.specs.Steps.{strip_byte, Shifted, Target}
 use Rattle.write.specs.Steps.{Strips, differed, Moved, Placed, settled}
 use Rattle.write.specs.Written.{difference, write_judged}
-use Rattle.write.specs.declared.Written.TheVariants.{Accepted}
+use Rattle.write.specs.declared.Accepted.{Accepted}
+use Rattle.write.specs.declared.Refused.{Refused}
 
 -- ---- the difference of two strips
 
@@ -93,9 +94,9 @@ placed_long s u q m i t v n T P = placed_length s u q m i t v n T P ∙ T.accept
 pub settle_fits : (s : List ℕ) (q : Params) (i a : ℕ) → length s ≡ image_length q → i < q.k → a ≡ revision_at i → a + 4 ≤ length s
 settle_fits s q i a l h e = omega (arith, revision_in q i h)
 
-pub settles : (s z : List ℕ) (i b x r a : ℕ) → r ≡ renewed b → a ≡ revision_at i → z ≡ put32 s a r → Leaves (settled s i b x) (Accepted r x) z
+pub settles : (s z : List ℕ) (i b x r a : ℕ) → r ≡ renewed b → a ≡ revision_at i → z ≡ put32 s a r → Leaves (settled s i b x) (Ok (record { revision = r; count = x })) z
 unfolding settled
-settles s z i b x r a g h k = record { answered = ap (λ (n : ℕ). Accepted n x) g; left = k ∙ ap₂ (put32 s) h g }
+settles s z i b x r a g h k = record { answered = ap (λ (n : ℕ). Ok (record { revision = n; count = x })) g; left = k ∙ ap₂ (put32 s) h g }
 
-pub none_left : (s u z : List ℕ) (q : Params) (i t b : ℕ) (v : List ℕ) (n : ℕ) (x : Written) → Placed s u q 0 i t v n → Leaves (settled u i b n) x z → Leaves (write_judged s q i t b v Current) x z
-none_left s u z q i t b v n x P = subst (λ (l : Left Written). Leaves l x z) (none_settled s u q i t b v n P)
+pub none_left : (s u z : List ℕ) (q : Params) (i t b : ℕ) (v : List ℕ) (n : ℕ) (x : Result Accepted Refused) → Placed s u q 0 i t v n → Leaves (settled u i b n) x z → Leaves (write_judged s q i t b v Current) x z
+none_left s u z q i t b v n x P = subst (λ (l : Left (Result Accepted Refused)). Leaves l x z) (none_settled s u q i t b v n P)

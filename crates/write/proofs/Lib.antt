@@ -1,6 +1,6 @@
 pub mod Empty
 pub mod Laws
 pub mod Ways
-pub mod Accepted
+pub mod After
 pub mod Beside
 pub mod Examples

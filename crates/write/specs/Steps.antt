@@ -1,6 +1,6 @@
 -- What a write and its inner functions ask for, and what each leaves.
 -- Assumes nothing.
-use Rattle.std.specs.Prelude.{ℕ, ◌+◌, ◌*◌, ◌<◌, ◌≤◌, List, ◌≡◌, length, get_or}
+use Rattle.std.specs.Prelude.{ℕ, ◌+◌, ◌*◌, ◌<◌, ◌≤◌, List, ◌≡◌, length, get_or, Result, Ok}
 use Rattle.laws.specs.Left.{Left}
 use Rattle.laws.specs.Number.{put32}
 use Rattle.laws.specs.Part.{put}
@@ -10,9 +10,9 @@ use Rattle.stripe.specs.declared.Params.{Params}
 use Rattle.stripe.specs.Layout.{column_length, data_count_at, data_from, parity_count_at, parity_from, revision_at, strip_at}
 use Rattle.present.specs.Present.{present_moved, present_count}
 use Rattle.revision.specs.Revision.{renewed}
-use Rattle.write.specs.declared.Written.{Written}
-use Rattle.write.specs.declared.Written.TheVariants.{Accepted}
 use Rattle.write.specs.Written.{difference}
+use Rattle.write.specs.declared.Accepted.{Accepted}
+use Rattle.write.specs.declared.Refused.{Refused}
 
 -- a strip at a place of an image, a strip, and a buffer, of one length
 pub record Strips (s : List ℕ) (at : ℕ) (v out : List ℕ) : Type 0 where
@@ -34,8 +34,8 @@ pub record Placed (s u : List ℕ) (q : Params) (m i t : ℕ) (v : List ℕ) (x 
   pub bytes : u ≡ put (patch s (parity_from q) (q.r * column_length q) (present_moved s q m i t (difference s q i t v))) (strip_at q i t) v
 
 -- what is left where s has all but the revision of column i, and x is the count
-unfoldable pub settled : List ℕ → ℕ → ℕ → ℕ → Left Written
-settled s i b x = record { answer = Accepted (renewed b) x; image = put32 s (revision_at i) (renewed b) }
+unfoldable pub settled : List ℕ → ℕ → ℕ → ℕ → Left (Result Accepted Refused)
+settled s i b x = record { answer = Ok (record { revision = renewed b; count = x }); image = put32 s (revision_at i) (renewed b) }
 
 -- u has the length of s, and its bytes before the revisions and at the counts of sections 3 and 4
 pub record Kept (q : Params) (s u : List ℕ) : Type 0 where

@@ -8,6 +8,7 @@ ghost use Rattle.stripe.specs.Params.{Admitted};
 ghost use Rattle.stripe.specs.Reading.{Image};
 ghost use Rattle.revision.specs.Revision.{judged};
 ghost use Rattle.revision.specs.declared.Age.TheVariants.{Current};
+ghost use Rattle.write.specs.declared.Refused.TheVariants.{Other};
 ghost use Rattle.write.specs.Written.{write_judged, write_of};
 ghost use Rattle.present.specs.Steps.{Target};
 ghost use Rattle.laws.specs.Left.{Leaves};
@@ -15,14 +16,28 @@ ghost use Rattle.write.specs.Steps.{Strips, differed, Moved, Placed, settled};
 
 use refusal::Refusal;
 use revision::Age;
-use stripe::{Params, Reading};
+use stripe::Params;
 
-// The new revision and the count of parity strips added to; or the age of a base that is not current; or another refusal.
+// What an accepted write comes to: the column's new revision, and the count of parity strips added to.
 #[derive(Clone, Copy)]
-pub enum Written {
-    Accepted(u32, u64),
+pub struct Accepted {
+    pub revision: u32,
+    pub count: u64,
+}
+
+// Why a write is refused: the age of a base that is not current, or another refusal.
+#[derive(Clone, Copy)]
+pub enum Refused {
     Aged(Age),
-    Refused(Refusal),
+    Other(Refusal),
+}
+
+impl From<Refusal> for Refused {
+    ghost from_gives = { λ e r. r ≡ Other e };
+
+    fn from(e: Refusal) -> Refused {
+        Refused::Other(e)
+    }
 }
 
 // Fills out with the difference between the strip at a place of the image and the new strip.
@@ -80,13 +95,19 @@ pub fn place(image: &mut [u8], q: Params, lost: u64, column: usize, row: usize, 
 }
 
 // Sets the revision of a column that was written against a base; gives the answer.
-pub fn settle(image: &mut [u8], q: Params, column: usize, base: u32, count: u64) -> Written
+pub fn settle(
+    image: &mut [u8],
+    q: Params,
+    column: usize,
+    base: u32,
+    count: u64,
+) -> Result<Accepted, Refused>
     requires { Admitted q × (column < q.k) × (length image.old ≡ image_length q) }
     ensures { Leaves (settled image.old column base count) result image.new }
 {
     let revision = revision::renew(base);
     stripe::put_u32(image, q.revision_at(column), revision);
-    Written::Accepted(revision, count)
+    Ok(Accepted { revision, count })
 }
 
 // A write whose base is current: parity, the strip, the revision.
@@ -97,7 +118,7 @@ fn accept(
     row: usize,
     base: u32,
     strip: &[u8],
-) -> Written
+) -> Result<Accepted, Refused>
     requires { Target image.old q column row strip.now }
     ensures { Leaves (write_judged image.old q column row base strip.now Current) result image.new }
 {
@@ -114,25 +135,28 @@ pub fn age_of(image: &[u8], q: Params, column: usize, base: u32) -> Age
 }
 
 // Writes a strip where the base is the column's revision: puts it in place, adds its difference to parity, sets the next revision.
-pub fn write(image: &mut [u8], column: usize, row: usize, base: u32, strip: &[u8]) -> Written
+pub fn write(
+    image: &mut [u8],
+    column: usize,
+    row: usize,
+    base: u32,
+    strip: &[u8],
+) -> Result<Accepted, Refused>
     ensures { Leaves (write_of image.old column row base strip.now) result image.new }
 {
-    let reading = stripe::read(image);
-    let Reading::Stripe(q) = reading else {
-        return Written::Refused(reading.refusal());
-    };
+    let q = stripe::read(image)?;
     if column >= q.k {
-        return Written::Refused(Refusal::Column);
+        return Err(Refused::Other(Refusal::Column));
     }
     if row >= q.p - 1 {
-        return Written::Refused(Refusal::Row);
+        return Err(Refused::Other(Refusal::Row));
     }
     if strip.len() != q.b {
-        return Written::Refused(Refusal::Width);
+        return Err(Refused::Other(Refusal::Width));
     }
     let age = age_of(image, q, column, base);
     if !age.is_current() {
-        return Written::Aged(age);
+        return Err(Refused::Aged(age));
     }
     accept(image, q, column, row, base, strip)
 }

@@ -4,8 +4,8 @@ use Rattle.pattern.proofs.Asking.{asked_low, asked_cell}
 use Rattle.airsaffron.proofs.Shows.{show_refused, show_lost, show_present}
 use Rattle.airsaffron.proofs.airsaffron_show.Goals as goal
 
-pub returns-in_default : goal.returns-in_default
-returns-in_default c = search show_refused
+pub returns-in-Err : goal.returns-in-Err
+returns-in-Err c = search show_refused
 
 pub is_lost-requires : goal.is_lost-requires
 is_lost-requires c = search asked_low

@@ -2,6 +2,7 @@
 -- Assumes nothing.
 use Rattle.stripe.proofs.Frame.{checked_admitted}
 use native.Mathlib.Omega.{arith}
+use Rattle.laws.proofs.Handed.{handed}
 use Rattle.file_by_file.proofs.Tests.{no_file, no_six, short_head, column_read, bad_params}
 use Rattle.file_by_file.proofs.read_file.Goals as goal
 
@@ -15,10 +16,10 @@ pub returns-then-left-lt-CARRIED_AT : goal.returns-then-left-lt-CARRIED_AT
 returns-then-left-lt-CARRIED_AT c = search short_head
 
 pub read_column-requires : goal.read_column-requires
-read_column-requires c = record { admitted = search checked_admitted; here = omega arith; number = omega arith }
+read_column-requires c = record { admitted = checked_admitted _ _ _ _ _ _ c.parameters.ensures (c.in_ok-q.was {u = tt}); here = omega arith; number = omega arith }
 
-pub returns-in-Sound : goal.returns-in-Sound
-returns-in-Sound c = search column_read
+pub returns : goal.returns
+returns c = search (column_read, c.in_ok-q.was {u = tt})
 
-pub returns-in-Refused : goal.returns-in-Refused
-returns-in-Refused c = search bad_params
+pub returns-in_err-q : goal.returns-in_err-q
+returns-in_err-q c = search (bad_params, c.in_err-q.was {u = tt}, handed _ _ c.from_residual.ensures.1)
