@@ -6,9 +6,10 @@ use mathlib.Core.List.{List}
 use mathlib.Core.Path.{◌≡◌, refl, sym, ◌∙◌}
 use native.Mathlib.Decide.{dec_lt}
 use native.Mathlib.Omega.{arith}
-use lib.Dec.{ltb}
+use lib.Dec.{leb, ltb}
 use lib.ListN.{length, length-append}
-use borrow.Author.Tests.{lt-ltb, le-ltb}
+use mir.Val.{bool_byte}
+use borrow.Author.Tests.{lt-ltb, le-ltb, lt-leb, le-leb}
 use Rattle.laws.proofs.Part.{length_part}
 use Rattle.laws.proofs.Tab.{length_tab}
 use Rattle.laws.specs.Choose.{choose}
@@ -29,13 +30,6 @@ module _ (q : Params) (n : ℕ) where
     unfolding carried
     carried_data = simp (lt-ltb n q.k h)
 
-    pub data_flag : 0 ≡ flag q n
-    unfolding flag
-    data_flag = simp (lt-ltb n q.k h)
-
-    pub one_carried : 1 ≡ carried q n
-    one_carried = sym carried_data
-
     pub data_place : (x : ℕ) → x ≡ data_at q n → x ≡ column_at q n
     data_place x e = e ∙ sym column_data
 
@@ -48,15 +42,25 @@ module _ (q : Params) (n : ℕ) where
     unfolding carried
     carried_parity = simp (le-ltb n q.k h)
 
-    pub parity_flag : 1 ≡ flag q n
-    unfolding flag
-    parity_flag = simp (le-ltb n q.k h)
-
-    pub none_carried : 0 ≡ carried q n
-    none_carried = sym carried_parity
-
     pub parity_place : (x : ℕ) → x ≡ parity_at q (n - q.k) → x ≡ column_at q n
     parity_place x e = e ∙ sym column_parity
+
+  -- 1 for parity, as a test gives it; 1 for data
+  pub flag_told : (x : ℕ) → x ≡ bool_byte (leb q.k n) → x ≡ flag q n
+  unfolding flag
+  flag_told x e = e ∙ go (dec_lt n q.k)
+    where
+      go : Dec (n < q.k) → bool_byte (leb q.k n) ≡ choose (ltb n q.k) 0 1
+      go (yes h) = rw (lt-leb q.k n h, lt-ltb n q.k h)
+      go (no h) = let g : q.k ≤ n = omega arith in rw (le-leb q.k n g, le-ltb n q.k g)
+
+  pub carried_told : (x : ℕ) → x ≡ bool_byte (ltb n q.k) → x ≡ carried q n
+  unfolding carried
+  carried_told x e = e ∙ go (ltb n q.k)
+    where
+      go : (b : Bool) → bool_byte b ≡ choose b 1 0
+      go true = refl
+      go false = refl
 
   pub carried_small : carried q n ≤ 1
   unfolding carried

@@ -5,18 +5,17 @@ use mathlib.Core.List.{List, [], ◌∷◌, ◌++◌, append_assoc, append-nil}
 use mathlib.Core.Logic.{inl}
 use mathlib.Core.Path.{◌≡◌, refl, sym, ap, ap₂, ◌∙◌}
 use native.Mathlib.Omega.{arith}
-use lib.ListN.{length, take, drop, length-append, take-append-drop, drop_of_length-le, length-take, length-drop}
+use lib.ListN.{length, take, drop, length-append, take-append-drop, drop_of_length-le}
 use Rattle.laws.proofs.Part.{length_part, length_put, part_put, part_apart}
 use Rattle.laws.proofs.Tab.{length_tab}
 use Rattle.laws.specs.Part.{part, put}
 use Rattle.engine.specs.Strips.{Strip}
-use Rattle.stripe.proofs.Places.{revision_in}
 use Rattle.stripe.proofs.Images.{put_between, cut_at, length_sixteen, length_opening}
 use Rattle.stripe.specs.Layout.{column_length, revision_at}
 use Rattle.stripe.specs.Sections.{sixteen, opening, PutIn}
 use Rattle.stripe.specs.declared.Params.{Params}
 use Rattle.column_file.specs.File.{column_at, flag, carried, flag_at, carried_at, revisions_from, strips_count_at, strips_from, file_length, file_holding, revisions_of, strips_of, file_of}
-use Rattle.column_file.specs.Inner.{ColumnOf, Empty, Asked}
+use Rattle.column_file.specs.Inner.{Empty, Asked}
 use Rattle.column_file.proofs.Columns.{carried_data, carried_parity, column_in, length_revisions, length_strips}
 
 -- ---- `copy_part`: the part as the code has it
@@ -24,9 +23,6 @@ use Rattle.column_file.proofs.Columns.{carried_data, carried_parity, column_in, 
 pub part_copied : (s t u : List ℕ) (to from n : ℕ) → u ≡ put t to (take (from + n - from) (drop from s)) → u ≡ put t to (part s from n)
 unfolding part
 part_copied s t u to from n e = let z : from + n - from ≡ n = omega arith in e ∙ ap (λ (x : ℕ). put t to (take x (drop from s))) z
-
-pub part_fits : (s t : List ℕ) (to from n : ℕ) → Strip t s to from n → to + length (take (from + n - from) (drop from s)) ≤ length t
-part_fits s t to from n S = simp (length-take, length-drop) (omega (arith, S.there))
 
 -- a list without bytes put anywhere
 pub put_empty : (t v : List ℕ) (at : ℕ) → length v ≡ 0 → put t at v ≡ t
@@ -88,21 +84,12 @@ module _ (s : List ℕ) (q : Params) (n : ℕ) (E : Empty s q n) where
 -- ---- one column taken from an image
 
 module _ (s t : List ℕ) (q : Params) (n : ℕ) (A : Asked s t q n) where
-  pub asked_revisions : (from : ℕ) → n < q.k → from ≡ revision_at n → Strip t s revisions_from from 4
-  asked_revisions from h e = record { there = omega (arith, A.room, carried_data q n h); here = omega (arith, revision_in q n h, A.image.len) }
-
   pub asked_strips : (to from m : ℕ) → to ≡ strips_from q n → from ≡ column_at q n → m ≡ column_length q → Strip t s to from m
   asked_strips to from m f e g = record { there = omega (arith, A.room); here = omega (arith, column_in q n A.below, A.image.len) }
-
-  pub asked_column : ColumnOf q n
-  asked_column = record { admitted = A.image.admitted; below = A.below }
 
 module _ (s t u : List ℕ) (q : Params) (n from : ℕ) where
   pub revisions_copied : n < q.k → from ≡ revision_at n → u ≡ put t revisions_from (part s from 4) → u ≡ put t revisions_from (revisions_of s q n)
   revisions_copied h e f = f ∙ ap₂ (λ (x y : ℕ). put t revisions_from (part s x (4 * y))) e (sym (carried_data q n h))
-
-  pub strips_copied : (to m : ℕ) → to ≡ strips_from q n → from ≡ column_at q n → m ≡ column_length q → u ≡ put t to (part s from m) → u ≡ put t (strips_from q n) (strips_of s q n)
-  strips_copied to m h e f g = g ∙ ap₂ (λ (x y : ℕ). put t to (part s x y)) e f ∙ ap (λ (x : ℕ). put t x (strips_of s q n)) h
 
 pub none_copied : (s t : List ℕ) (q : Params) (n : ℕ) → q.k ≤ n → t ≡ put t revisions_from (revisions_of s q n)
 none_copied s t q n h = no_revisions s t q n revisions_from (revision_at n) h
@@ -122,16 +109,10 @@ module _ (s t u : List ℕ) (q : Params) (n : ℕ) (A : Asked s t q n) (e1 : u �
   lu : length u ≡ length t
   lu = ap length e1 ∙ length_put t revisions_from (revisions_of s q n) r_in
 
-  pub revised_asked : Asked s u q n
-  revised_asked = record { image = A.image; below = A.below; room = lu ∙ A.room }
-
   s_in : strips_from q n + length (strips_of s q n) ≤ length u
   s_in = omega (arith, ls, lu, A.room)
 
   module _ (v : List ℕ) (e2 : v ≡ put u (strips_from q n) (strips_of s q n)) where
-    pub copied_empty : Empty v q n
-    copied_empty = record { column = asked_column s t q n A; room = ap length e2 ∙ length_put u (strips_from q n) (strips_of s q n) s_in ∙ lu ∙ A.room }
-
     pub file_filled : (w : List ℕ) → w ≡ file_holding q n (part v revisions_from (4 * carried q n)) (part v (strips_from q n) (column_length q)) → w ≡ file_of s q n
     unfolding file_of
     file_filled w e =

@@ -27,20 +27,14 @@ pub const REVISIONS_FROM: usize = 16;
 pub fn flag(q: Params, n: usize) -> usize
     ensures { (result ≡ flag q n) × (result ≤ 1) }
 {
-    if n < q.k {
-        return 0;
-    }
-    1
+    usize::from(n >= q.k)
 }
 
 // How many revisions the file of column n carries: 1 for data, 0 for parity.
 pub fn carried(q: Params, n: usize) -> usize
     ensures { (result ≡ carried q n) × (result ≤ 1) }
 {
-    if n < q.k {
-        return 1;
-    }
-    0
+    usize::from(n < q.k)
 }
 
 // Where column n of an image starts.
@@ -49,9 +43,10 @@ pub fn column_at(q: Params, n: usize) -> usize
     ensures { (result ≡ column_at q n) × (result ≤ 2000000) }
 {
     if n < q.k {
-        return q.data_at(n);
+        q.data_at(n)
+    } else {
+        q.parity_at(n - q.k)
     }
-    q.parity_at(n - q.k)
 }
 
 // Where the count of section three stands in the file of column n.

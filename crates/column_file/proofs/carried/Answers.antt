@@ -1,11 +1,8 @@
 -- `column_file::carried` meets its contract.
 -- Assumes nothing.
 use native.Mathlib.Omega.{arith}
-use Rattle.column_file.proofs.Columns.{one_carried, none_carried}
+use Rattle.column_file.proofs.Columns.{carried_told, carried_small}
 use Rattle.column_file.proofs.carried.Goals as goal
 
-pub returns-then-n-q : goal.returns-then-n-q
-returns-then-n-q c = (search one_carried, omega arith)
-
 pub returns : goal.returns
-returns c = (search none_carried, omega arith)
+returns c = let e = carried_told c.args.q c.args.n c.from.result c.from.ensures in (e, omega (arith, carried_small c.args.q c.args.n))

@@ -7,5 +7,5 @@ use Rattle.column_file.proofs.column_at.Goals as goal
 pub returns-then-n-q : goal.returns-then-n-q
 returns-then-n-q c = (search data_place, omega arith)
 
-pub returns : goal.returns
-returns c = (search parity_place, omega arith)
+pub returns-else-n-q : goal.returns-else-n-q
+returns-else-n-q c = (search parity_place, omega arith)

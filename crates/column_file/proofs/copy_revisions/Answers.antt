@@ -1,10 +1,7 @@
 -- `column_file::copy_revisions` meets its contract.
 -- Assumes nothing.
-use Rattle.column_file.proofs.Writing.{asked_revisions, revisions_copied, none_copied}
+use Rattle.column_file.proofs.Writing.{revisions_copied, none_copied}
 use Rattle.column_file.proofs.copy_revisions.Goals as goal
-
-pub copy_part-requires : goal.copy_part-requires
-copy_part-requires c = search asked_revisions
 
 pub returns-then-n-q : goal.returns-then-n-q
 returns-then-n-q c = search revisions_copied
