@@ -150,14 +150,12 @@ fn write_sound(
 }
 
 // Whether the pattern names columns of the stripe alone, and the column is one of its data.
+#[tactic(auto, using(pattern::proofs::Asking::within_tested))]
 fn is_within(q: Params, lost: u64, column: usize) -> bool
     requires { Admitted q }
     ensures { result ≡ (pattern_fits q lost && ltb column q.k) }
 {
-    if !pattern::fits(q, lost) {
-        return false;
-    }
-    column < q.k
+    pattern::fits(q, lost) && column < q.k
 }
 
 // Writes a strip while the columns of a pattern are lost: present columns end as on the complete image, lost ones stay.

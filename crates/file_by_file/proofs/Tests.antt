@@ -18,7 +18,6 @@ use Rattle.laws.specs.Xor.{◌⊕◌}
 use Rattle.refusal.specs.declared.Refusal.{Refusal}
 use Rattle.refusal.specs.declared.Refusal.TheVariants.{Cut, Count, Column, Foreign, Twice}
 use Rattle.stripe.specs.Params.{checked_of}
-use Rattle.stripe.specs.Sections.{numbers_at}
 use Rattle.stripe.specs.declared.Params.{Params}
 use Rattle.column_file.specs.File.{flag, carried, number_at, flag_at, carried_at, strips_count_at, file_length}
 use Rattle.file_by_file.specs.Files.{alike, counted, body_step, column_step, checked_step, step_of}
@@ -31,38 +30,6 @@ is x y z w e f g = eq-eqb y w (sym e ∙ g ∙ f)
 
 is_not : (x y z w : ℕ) → x ≡ y → z ≡ w → (x ≡ z → ⊥) → eqb y w ≡ false
 is_not x y z w e f n = ne_eqb y w (λ g. n (e ∙ g ∙ sym f))
-
--- ---- the ways out of `is_alike`
-
-module _ (s : List ℕ) (at : ℕ) (q f : Params) (hq : q ≡ numbers_at s at) (hf : f ≡ numbers_at s 0) where
-  same : (g : Params → ℕ) → g q ≡ g f → eqb (g (numbers_at s at)) (g (numbers_at s 0)) ≡ true
-  same g e = is (g q) _ (g f) _ (ap g hq) (ap g hf) e
-
-  unlike : (g : Params → ℕ) → (g q ≡ g f → ⊥) → eqb (g (numbers_at s at)) (g (numbers_at s 0)) ≡ false
-  unlike g n = is_not (g q) _ (g f) _ (ap g hq) (ap g hf) n
-
-  pub unlike_p : (q.p ≡ f.p → ⊥) → false ≡ alike s at
-  unfolding alike
-  unlike_p n = simp (unlike (λ x. x.p) n)
-
-  module _ (ep : q.p ≡ f.p) where
-    pub unlike_k : (q.k ≡ f.k → ⊥) → false ≡ alike s at
-    unfolding alike
-    unlike_k n = simp (same (λ x. x.p) ep, unlike (λ x. x.k) n)
-
-    module _ (ek : q.k ≡ f.k) where
-      pub unlike_r : (q.r ≡ f.r → ⊥) → false ≡ alike s at
-      unfolding alike
-      unlike_r n = simp (same (λ x. x.p) ep, same (λ x. x.k) ek, unlike (λ x. x.r) n)
-
-      module _ (er : q.r ≡ f.r) where
-        pub unlike_b : (q.b ≡ f.b → ⊥) → false ≡ alike s at
-        unfolding alike
-        unlike_b n = simp (same (λ x. x.p) ep, same (λ x. x.k) ek, same (λ x. x.r) er, unlike (λ x. x.b) n)
-
-        pub all_alike : q.b ≡ f.b → true ≡ alike s at
-        unfolding alike
-        all_alike eb = simp (same (λ x. x.p) ep, same (λ x. x.k) ek, same (λ x. x.r) er, same (λ x. x.b) eb)
 
 -- ---- the ways out of `is_counted`
 

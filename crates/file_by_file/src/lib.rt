@@ -17,25 +17,12 @@ pub struct File {
 }
 
 // Whether the file at a place has the parameters of the first.
+#[tactic(auto, unfolding(crate::specs::Files::alike))]
 fn is_alike(files: &[u8], at: usize) -> bool
     requires { at + 14 ≤ length files.now }
     ensures { result ≡ alike files.now at }
 {
-    let q = stripe::numbers(files, at);
-    let first = stripe::numbers(files, 0);
-    if q.p != first.p {
-        return false;
-    }
-    if q.k != first.k {
-        return false;
-    }
-    if q.r != first.r {
-        return false;
-    }
-    if q.b != first.b {
-        return false;
-    }
-    true
+    stripe::numbers(files, at) == stripe::numbers(files, 0)
 }
 
 // Whether the counts of sections two and three are those of column n.
