@@ -164,24 +164,20 @@ module _ (c p : ℕ) (h0 : 0 < c) (hc : c < p) (hp : p ≤ 61) (prime : T (odd_p
       let g : 1 * 2 ^ (2 * m * c % p) < 2 ^ 64 = omega (arith, pow-lt k) in
       mod-eq_of_lt g ∙ omega arith
 
-  pub spread_last : (m s : ℕ) → 1 ≤ m → s ≡ evens p c (m - 1) → s + 1 * 2 ^ (2 * m * c % p) % 2 ^ 64 ≡ evens p c m
+  pub spread_more : (m s : ℕ) → s ≡ evens p c m → s + 1 * 2 ^ (2 * (m + 1) * c % p) % 2 ^ 64 ≡ evens p c (m + 1)
   unfolding evens
-  spread_last zero s h e = absurd (omega arith)
-  spread_last (suc m) s h e =
-      let k : suc m - 1 ≡ m = omega arith in
-      ap₂ (λ (x y : ℕ). x + y) (e ∙ ap (evens p c) k) (term (suc m))
-
-  pub spread_more : (m s : ℕ) → 1 ≤ m → s ≡ evens p c (m - 1) → s + 1 * 2 ^ (2 * m * c % p) % 2 ^ 64 ≡ evens p c (m + 1 - 1)
-  spread_more m s h e = let k : m ≡ m + 1 - 1 = omega arith in spread_last m s h e ∙ ap (evens p c) k
+  spread_more m s e =
+      let k : m + 1 ≡ suc m = omega arith in
+      ap₂ (λ (x y : ℕ). x + y) e (term (m + 1) ∙ ap (λ (x : ℕ). 2 ^ (2 * x * c % p)) k) ∙ ap (evens p c) (sym k)
 
   wide_all : 2 ^ p ≤ 2 ^ 61
   wide_all = pow_mono hp
 
-  pub spread_fits : (m s : ℕ) → 1 ≤ m → m ≤ p / 2 → s ≡ evens p c (m - 1) → s + 1 * 2 ^ (2 * m * c % p) % 2 ^ 64 < 2 ^ 64
-  spread_fits m s h k e = omega (arith, spread_last m s h e, evens_mono p c m (p / 2) k, evens_lt p c h0 hc hp prime, wide_all)
+  pub spread_fits : (m s : ℕ) → s ≡ evens p c m → m < p / 2 → s + 1 * 2 ^ (2 * (m + 1) * c % p) % 2 ^ 64 < 2 ^ 64
+  spread_fits m s e h = omega (arith, spread_more m s e, evens_mono p c (m + 1) (p / 2) (omega arith), evens_lt p c h0 hc hp prime, wide_all)
 
-  pub spread_end : (m s : ℕ) → 1 ≤ m → s ≡ evens p c (m - 1) → m ≤ p / 2 → p / 2 ≤ m → s + 1 * 2 ^ (2 * m * c % p) % 2 ^ 64 ≡ evens p c (p / 2)
-  spread_end m s h e l k = let z : m ≡ p / 2 = omega arith in spread_last m s h e ∙ ap (evens p c) z
+  pub spread_end : (m s : ℕ) → s ≡ evens p c m → m ≤ p / 2 → p / 2 ≤ m → s ≡ evens p c (p / 2)
+  spread_end m s e h k = let z : m ≡ p / 2 = omega arith in e ∙ ap (evens p c) z
 
 pub chosen : (b w : ℕ) → b % 2 ≡ 1 → w ≡ pick (b % 2) w
 unfolding pick

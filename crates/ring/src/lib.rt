@@ -61,8 +61,8 @@ fn spread(c: usize, p: usize) -> u64
     ensures { result ≡ evens p c (p / 2) }
 {
     let mut sum = 1;
-    for m in 1..=p / 2 {
-        sum += 1 << (2 * m * c % p);
+    for m in 0..p / 2 {
+        sum += 1 << (2 * (m + 1) * c % p);
     }
     sum
 }

@@ -1,9 +1,8 @@
 -- `ring::spread` meets its contract.
 -- Assumes nothing.
-use Prim.Native.Nat.{◌-◌}
 use mathlib.Core.Path.{◌≡◌}
 use Rattle.algebra.specs.Divide.{evens}
 use Rattle.ring.proofs.spread.Given as goal
 
 abbrev pub invariant-loop-m : goal.invariant-loop-m
-invariant-loop-m l = l.sum ≡ evens l.p l.c (l.m - 1)
+invariant-loop-m l = l.sum ≡ evens l.p l.c l.m
