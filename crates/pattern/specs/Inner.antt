@@ -1,7 +1,7 @@
 -- What the inner functions ask and leave.
 -- Assumes nothing.
-use Rattle.std.specs.Prelude.{◌+◌, ◌<◌, ◌≤◌, ℕ, List, T, eqb}
-use Rattle.laws.specs.Bit.{bit, weight}
+use Rattle.std.specs.Prelude.{◌+◌, ◌<◌, ℕ, List, T, eqb}
+use Rattle.laws.specs.Bit.{bit}
 use Rattle.laws.specs.Part.{table}
 use Rattle.algebra.specs.Recovery.{lost}
 use Rattle.stripe.specs.Layout.{rows}
@@ -23,7 +23,3 @@ named m want base n = lost (table n (λ i. eqb (bit m i) want)) (table n (λ i. 
 pub record Repairable (q : Params) (m : ℕ) : Type 0 where
   pub admitted : Admitted q
   pub few : T (few_lost q m)
-
--- m names one column or none
-abbrev pub Single : ℕ → Type 0
-Single m = (n : ℕ) → weight m n ≤ 1

@@ -1,12 +1,12 @@
 // The pattern of lost columns: what it names, what is refused for it, and the columns that lost ones are found from.
 #![tactic(auto)]
 
-ghost use Rattle.std.specs.Prelude.{◌≡◌, ◌+◌, ◌<◌, ◌≤◌, true, ◌&&◌, ltb, eqb, length, replicate, take, Ok};
+ghost use Rattle.std.specs.Prelude.{◌≡◌, ◌+◌, ◌<◌, ◌≤◌, ◌&&◌, ltb, eqb, length, replicate, take, Ok};
 ghost use Rattle.laws.specs.Choose.{choose};
 ghost use Rattle.laws.specs.Bit.{bit, weight};
 ghost use Rattle.stripe.specs.Params.{Admitted};
 ghost use Rattle.pattern.specs.Pattern.{is_lost, lost_exponents, present_exponents, consulted, pattern_fits, few_lost, asked_read, asked};
-ghost use Rattle.pattern.specs.Inner.{named, Single};
+ghost use Rattle.pattern.specs.Inner.{named};
 
 use refusal::Refusal;
 use stripe::Params;
@@ -47,21 +47,13 @@ fn is_within(q: Params, lost: u64, column: usize) -> bool
     fits(q, lost) && column < q.k + q.r
 }
 
-// Whether the pattern names one column or none.
-#[tactic(auto, using(crate::proofs::Single::one_single))]
-fn is_single(lost: u64) -> bool
-    ensures { result ≡ true → Single lost }
-{
-    lost & lost.wrapping_sub(1) == 0
-}
-
-// Whether no more columns are lost than there are parity columns, of which there is one at least.
-#[tactic(auto, using(crate::proofs::Single::few))]
+// Whether no more columns are lost than there are parity columns.
+#[tactic(auto, using(crate::proofs::Single::few_tested))]
 pub fn is_few(q: Params, lost: u64) -> bool
     requires { Admitted q }
     ensures { result ≡ few_lost q lost }
 {
-    is_single(lost) || lost_below(lost, q.k + q.r) <= q.r
+    lost_below(lost, q.k + q.r) <= q.r
 }
 
 // The parameters where strip (column, row) may be asked for with a scratch of `room` bytes, or the refusal that is due.
