@@ -1,9 +1,8 @@
 // The pattern of lost columns: what it names, what is refused for it, and the columns that lost ones are found from.
 #![tactic(auto)]
 
-ghost use Rattle.std.specs.Prelude.{◌≡◌, ◌+◌, ◌<◌, ◌≤◌, ◌&&◌, ltb, eqb, length, replicate, take, Ok};
-ghost use Rattle.laws.specs.Choose.{choose};
-ghost use Rattle.laws.specs.Bit.{bit, weight};
+ghost use Rattle.std.specs.Prelude.{◌≡◌, ◌+◌, ◌<◌, ◌≤◌, ◌&&◌, ltb, length, replicate, take, Ok};
+ghost use Rattle.laws.specs.Bit.{weight};
 ghost use Rattle.stripe.specs.Params.{Admitted};
 ghost use Rattle.pattern.specs.Pattern.{is_lost, lost_exponents, present_exponents, consulted, pattern_fits, few_lost, asked_read, asked};
 ghost use Rattle.pattern.specs.Inner.{named};
