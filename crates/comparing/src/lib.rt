@@ -12,108 +12,77 @@ use write::{Accepted, Refused};
 // All numbers of refusal lie below it.
 const REFUSALS_END: usize = 18;
 
-// An answer in numbers: that of its refusal or 0, and up to four beside it.
+// What an answer gives where it is no refusal, in up to four numbers.
+pub trait Numbers {
+    fn numbers(self) -> [u64; 4];
+}
+
+impl Numbers for () {
+    fn numbers(self) -> [u64; 4] {
+        [0; 4]
+    }
+}
+
+impl Numbers for u64 {
+    fn numbers(self) -> [u64; 4] {
+        [self, 0, 0, 0]
+    }
+}
+
+impl Numbers for Shape {
+    fn numbers(self) -> [u64; 4] {
+        [self.p, self.k, self.r, self.b].map(|n| n as u64)
+    }
+}
+
+impl Numbers for Params {
+    fn numbers(self) -> [u64; 4] {
+        [self.p, self.k, self.r, self.b].map(|n| n as u64)
+    }
+}
+
+// An answer in numbers: that of its refusal or 0, and those beside it.
 #[derive(Clone, Copy, PartialEq, Eq, Debug)]
-pub struct Answer(pub [u64; 5]);
+pub struct Answer {
+    pub refusal: u64,
+    pub beside: [u64; 4],
+}
 
 impl Answer {
-    // The answer of a refusal.
-    fn refused(no: u64) -> Answer {
-        Answer([no, 0, 0, 0, 0])
-    }
-
-    // The number of its refusal, or 0.
-    fn refusal(self) -> u64 {
-        self.0[0]
+    // An answer that has numbers only where it is no refusal.
+    pub fn new<T: Numbers>(answer: Result<T, u64>) -> Answer {
+        let (refusal, beside) = match answer {
+            Ok(given) => (0, given.numbers()),
+            Err(no) => (no, [0; 4]),
+        };
+        Answer { refusal, beside }
     }
 
     // How many numbers of two answers are different.
     pub fn apart(self, other: Answer) -> usize {
-        apart(&self.0, &other.0)
-    }
-}
-
-impl From<Result<(), u64>> for Answer {
-    fn from(done: Result<(), u64>) -> Answer {
-        Answer::refused(done.err().unwrap_or(0))
-    }
-}
-
-impl From<Result<u64, u64>> for Answer {
-    fn from(word: Result<u64, u64>) -> Answer {
-        match word {
-            Ok(word) => Answer([0, word, 0, 0, 0]),
-            Err(no) => Answer::refused(no),
-        }
-    }
-}
-
-impl From<Result<Shape, u64>> for Answer {
-    fn from(shape: Result<Shape, u64>) -> Answer {
-        match shape {
-            Ok(q) => Answer([0, q.p as u64, q.k as u64, q.r as u64, q.b as u64]),
-            Err(no) => Answer::refused(no),
-        }
+        let beside = apart(&self.beside, &other.beside);
+        beside.wrapping_add(usize::from(self.refusal != other.refusal))
     }
 }
 
 impl From<Result<Written, Unwritten>> for Answer {
     fn from(written: Result<Written, Unwritten>) -> Answer {
-        match written {
-            Ok(to) => Answer([0, u64::from(to.revision), to.count, 0, 0]),
-            Err(no) => Answer([no.no.number(), u64::from(no.distance), 0, 0, 0]),
-        }
+        let (refusal, beside) = match written {
+            Ok(to) => (0, [u64::from(to.revision), to.count, 0, 0]),
+            Err(no) => (no.no.number(), [u64::from(no.distance), 0, 0, 0]),
+        };
+        Answer { refusal, beside }
     }
 }
 
 impl From<Result<Accepted, Refused>> for Answer {
     fn from(written: Result<Accepted, Refused>) -> Answer {
-        match written {
-            Ok(to) => Answer([0, u64::from(to.revision), to.count, 0, 0]),
-            Err(Refused::Aged(age)) => {
-                Answer([age.number(), u64::from(age.distance()), 0, 0, 0])
-            }
-            Err(Refused::Other(no)) => Answer::refused(no.number()),
-        }
-    }
-}
-
-// Parameters that the library found sound.
-fn of_params(q: Params) -> Shape {
-    Shape {
-        p: q.p,
-        k: q.k,
-        r: q.r,
-        b: q.b,
-        slip: None,
-    }
-}
-
-// The library's answers in numbers.
-impl From<Result<Params, Refusal>> for Answer {
-    fn from(read: Result<Params, Refusal>) -> Answer {
-        Answer::from(match read {
-            Ok(q) => Ok(of_params(q)),
-            Err(no) => Err(no.number()),
-        })
-    }
-}
-
-impl From<Result<u64, Refusal>> for Answer {
-    fn from(word: Result<u64, Refusal>) -> Answer {
-        Answer::from(match word {
-            Ok(w) => Ok(w),
-            Err(no) => Err(no.number()),
-        })
-    }
-}
-
-impl From<Result<(), Refusal>> for Answer {
-    fn from(done: Result<(), Refusal>) -> Answer {
-        Answer::from(match done {
-            Ok(()) => Ok(()),
-            Err(no) => Err(no.number()),
-        })
+        let (refusal, beside) = match written {
+            Ok(to) => (0, [u64::from(to.revision), to.count, 0, 0]),
+            Err(Refused::Aged(age)) => (age.number(), [u64::from(age.distance()), 0, 0, 0]),
+            Err(Refused::Other(no)) => (no.number(), [0; 4]),
+        };
+        Answer { refusal, beside }
     }
 }
 
@@ -182,43 +151,45 @@ impl Tally {
         self.differences = self.differences.wrapping_add(differences);
     }
 
-    // An answer of the library, beside the one that is due.
+    // An answer of the library in numbers, beside the one that is due.
     pub fn compare(&mut self, answer: Answer, due: Answer) {
         self.add(answer.apart(due));
-        if let Some(times) = self.given.get_mut(answer.refusal() as usize) {
+        if let Some(times) = self.given.get_mut(answer.refusal as usize) {
             *times = times.wrapping_add(1);
         }
     }
 
+    // An answer of the library, beside that of the second implementation.
+    fn beside<A: Numbers, B: Numbers>(&mut self, one: Result<A, Refusal>, two: Result<B, No>) {
+        let due = Answer::new(two.map_err(No::number));
+        self.compare(Answer::new(one.map_err(Refusal::number)), due);
+    }
+
     // The parameters' test.
     pub fn parameters(&mut self, q: Shape) {
-        let answer = Answer::from(Params::checked(q.p, q.k, q.r, q.b));
-        self.compare(answer, Answer::from(q.tested().map_err(No::number)));
+        self.beside(Params::checked(q.p, q.k, q.r, q.b), q.tested());
     }
 
     // Reading.
     pub fn read(&mut self, image: &[u8]) {
-        let due = second_ground::read(image, None).map_err(No::number);
-        self.compare(Answer::from(stripe::read(image)), Answer::from(due));
+        self.beside(stripe::read(image), second_ground::read(image, None));
     }
 
     // The product of two words.
     pub fn product(&mut self, p: usize, u: u64, v: u64) {
-        let due = second_ground::product(p, u, v).map_err(No::number);
-        self.compare(Answer::from(ring::product(p, u, v)), Answer::from(due));
+        self.beside(ring::product(p, u, v), second_ground::product(p, u, v));
     }
 
     // The division of a word.
     pub fn divide(&mut self, p: usize, s: u64, a: usize, b: usize, slip: Option<Slip>) {
-        let due = second_ground::divide(p, s, a, b, slip).map_err(No::number);
-        self.compare(Answer::from(ring::divide(p, s, a, b)), Answer::from(due));
+        let one = ring::divide(p, s, a, b);
+        self.beside(one, second_ground::divide(p, s, a, b, slip));
     }
 
     // Make.
     pub fn make(&mut self, q: Shape, given: &[u8], one: &mut [u8], two: &mut [u8]) {
-        let answer = Answer::from(parity::make(q.p, q.k, q.r, q.b, given, one));
-        let due = second::make(q, given, two).map_err(No::number);
-        self.compare(answer, Answer::from(due));
+        let done = parity::make(q.p, q.k, q.r, q.b, given, one);
+        self.beside(done, second::make(q, given, two));
         self.add(apart(one, two));
     }
 
@@ -231,31 +202,29 @@ impl Tally {
     // Makes one image from drawn data, by the library.
     pub fn make_again(&mut self, q: Shape, c: usize, image: &mut [u8], room: &mut [u8]) {
         let given = draw_data(q, c, room);
-        let answer = Answer::from(parity::make(q.p, q.k, q.r, q.b, given, image));
+        let done = parity::make(q.p, q.k, q.r, q.b, given, image);
+        let answer = Answer::new(done.map_err(Refusal::number));
         self.compare(answer, answer);
     }
 
     // Refill.
     pub fn refill(&mut self, pair: &mut Pair, slip: Option<Slip>) {
-        let answer = Answer::from(parity::refill(pair.one));
-        let due = second::refill(pair.two, slip).map_err(No::number);
-        self.compare(answer, Answer::from(due));
+        let done = parity::refill(pair.one);
+        self.beside(done, second::refill(pair.two, slip));
         self.add(pair.apart());
     }
 
     // Check of the library's image.
     pub fn check(&mut self, pair: &mut Pair, slip: Option<Slip>) {
         let image = &mut *pair.one;
-        let answer = Answer::from(parity::check(image));
-        let due = second::check(image, pair.room, slip).map_err(No::number);
-        self.compare(answer, Answer::from(due));
+        let wrong = parity::check(image);
+        self.beside(wrong, second::check(image, pair.room, slip));
     }
 
     // Rebuild.
     pub fn rebuild(&mut self, pair: &mut Pair, lost: u64, slip: Option<Slip>) {
-        let answer = Answer::from(rebuild::rebuild(pair.one, lost));
-        let due = second_lost::rebuild(pair.two, lost, slip).map_err(No::number);
-        self.compare(answer, Answer::from(due));
+        let done = rebuild::rebuild(pair.one, lost);
+        self.beside(done, second_lost::rebuild(pair.two, lost, slip));
         self.add(pair.apart());
     }
 
@@ -268,19 +237,22 @@ impl Tally {
         };
         let Asked { lost, column, row } = asked;
         let image = &mut *pair.one;
-        let answer = Answer::from(rebuild::restore(image, lost, column, row, first));
-        let due = second_lost::restore(image, asked, second, pair.room, slip);
-        self.compare(answer, Answer::from(due.map_err(No::number)));
+        let done = rebuild::restore(image, lost, column, row, first);
+        self.beside(
+            done,
+            second_lost::restore(image, asked, second, pair.room, slip),
+        );
         self.add(apart(&one, &two));
     }
 
     // Show of a strip of an image, and the number of its refusal.
     pub fn show(&mut self, image: &[u8], asked: Asked, scratch: &[u8]) {
         let Asked { lost, column, row } = asked;
-        let number = rebuild::show_refusal(image, lost, column, row, scratch);
+        let refusal = rebuild::show_refusal(image, lost, column, row, scratch);
+        let beside = [0; 4];
         let bytes = rebuild::show(image, lost, column, row, scratch);
         let due = second_lost::show(image, asked, scratch).map_err(No::number);
-        self.compare(Answer::refused(number), Answer::from(due.map(|_| ())));
+        self.compare(Answer { refusal, beside }, Answer::new(due.map(|_| ())));
         self.add(apart(bytes, due.unwrap_or(&[])));
     }
 }

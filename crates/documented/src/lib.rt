@@ -2,8 +2,9 @@
 // slip what it says that the slip would give.
 #![tactic(auto)]
 
-use comparing::{Answer, Tally, apart};
+use comparing::{Answer, Numbers, Tally, apart};
 use histories::{Way, library_write, second_write};
+use refusal::Refusal;
 use second_ground::{HALF_CIRCLE, No, Note, Shape, Slip, Unwritten, Written, read};
 use stripe::Params;
 use total::part;
@@ -30,6 +31,17 @@ fn answer_due(t: &mut Tally, a: Answer, b: Answer, due: Answer) {
     t.add(b.apart(due));
 }
 
+// The same of an answer of the library and of one of the second implementation.
+fn results_due<A: Numbers, B: Numbers>(
+    t: &mut Tally,
+    a: Result<A, Refusal>,
+    b: Result<B, No>,
+    due: Answer,
+) {
+    let a = Answer::new(a.map_err(Refusal::number));
+    answer_due(t, a, Answer::new(b.map_err(No::number)), due);
+}
+
 // Two images that are both to be the due one.
 fn image_due(t: &mut Tally, one: &[u8], two: &[u8], due: &[u8]) {
     t.add(apart(one, due));
@@ -49,26 +61,21 @@ fn shape() -> Shape {
 
 // The answer of a shape, or of a refusal in its place.
 fn shape_or(q: Shape, no: Option<No>) -> Answer {
-    Answer::from(match no {
-        None => Ok(q),
-        Some(no) => Err(no.number()),
-    })
+    Answer::new(no.map_or(Ok(q), |no| Err(no.number())))
 }
 
 // Parameters, and the refusal that is due or none.
 fn limit(t: &mut Tally, p: usize, k: usize, r: usize, b: usize, no: Option<No>) {
     let slip = None;
     let q = Shape { p, k, r, b, slip };
-    let a = Answer::from(Params::checked(p, k, r, b));
-    let b = Answer::from(q.tested().map_err(No::number));
-    answer_due(t, a, b, shape_or(q, no));
+    let a = Params::checked(p, k, r, b);
+    results_due(t, a, q.tested(), shape_or(q, no));
 }
 
 // I, or I with fewer or more bytes, and the refusal that is due or none.
 fn reading(t: &mut Tally, image: &[u8], no: Option<No>) {
-    let a = Answer::from(stripe::read(image));
-    let b = Answer::from(read(image, None).map_err(No::number));
-    answer_due(t, a, b, shape_or(shape(), no));
+    let a = stripe::read(image);
+    results_due(t, a, read(image, None), shape_or(shape(), no));
 }
 
 // The limits: of the parameters, I less one byte, I, I with one more.
@@ -91,9 +98,9 @@ pub fn limits(t: &mut Tally) {
 fn made<const N: usize>(t: &mut Tally, q: Shape, given: &[u8], due: &[u8; N]) {
     let mut one = [0; N];
     let mut two = [0; N];
-    let a = Answer::from(parity::make(q.p, q.k, q.r, q.b, given, &mut one));
-    let b = Answer::from(second::make(q, given, &mut two).map_err(No::number));
-    answer_due(t, a, b, Answer::from(Ok(())));
+    let a = parity::make(q.p, q.k, q.r, q.b, given, &mut one);
+    let b = second::make(q, given, &mut two);
+    results_due(t, a, b, Answer::new(Ok(())));
     image_due(t, &one, &two, due);
 }
 
@@ -195,9 +202,9 @@ fn accepted_write(t: &mut Tally, slip: Option<Slip>) {
 // A lost column's bytes are not read.
 fn lost(t: &mut Tally, slip: Option<Slip>) {
     let (mut one, mut two) = (SPOILED, SPOILED);
-    let a = Answer::from(rebuild::rebuild(&mut one, 3));
-    let b = Answer::from(second_lost::rebuild(&mut two, 3, slip).map_err(No::number));
-    answer_due(t, a, b, Answer::from(Ok(())));
+    let a = rebuild::rebuild(&mut one, 3);
+    let b = second_lost::rebuild(&mut two, 3, slip);
+    results_due(t, a, b, Answer::new(Ok(())));
     image_due(t, &one, &two, &EXAMPLE);
 }
 

@@ -86,7 +86,7 @@ impl History {
 
     // All writes in the order of their numbers, on both images; gives the library's answers.
     fn write_all(self, t: &mut Tally, pair: &mut Pair) -> [Answer; WRITES] {
-        let mut answers = [Answer([0; 5]); WRITES];
+        let mut answers = [Answer::new(Ok(())); WRITES];
         for (w, answer) in answers.iter_mut().enumerate() {
             *answer = self.write_both(t, pair, w);
         }
