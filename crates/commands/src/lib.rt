@@ -2,13 +2,10 @@
 // A changed image goes to a new file beside the old one; that is synced and looked at again before it takes the old one's name.
 #![tactic(auto)]
 
-ghost use Rattle.std.specs.Prelude.{◌≡◌, ◌≤◌, length, replicate};
-ghost use Rattle.refusal.specs.Number.{answer_value};
+ghost use Rattle.std.specs.Prelude.{◌≡◌, ◌≤◌, length, replicate, IfOk};
 
 use answers::Answer;
-use files::Taken;
 use images::Changed;
-use refusal::Refusal;
 use std::rt::{Env, Files};
 use stripe::Params;
 use words::Command;
@@ -17,12 +14,45 @@ use write::{Accepted, Refused};
 // Room for the files of all columns, and for the section one of a file more: by that all that follows is refused as in the whole.
 const FILES_ROOM: usize = columns::LARGEST_FILES + column_file::CARRIED_AT;
 
-// Room for the words of an import of every column: its name, an image and the files, each path of up to 4,096 bytes.
-const LINE_ROOM: usize = (Params::LARGEST_PRIME + 2) * 4096;
+// Room for the words of an import of every column: its name, an image and the files, each path of up to 4,096 bytes; and for a 0 behind them.
+const LINE_ROOM: usize = (Params::LARGEST_PRIME + 2) * 4096 + 1;
 
-// Writes the line of an answer.
-fn tell(rt: &(impl Print + Eprint), answer: Answer) {
-    files::check_output(rt, answers::say(rt, answer));
+// A command, and the line of words that it was read from, with a mark between two.
+#[derive(Clone, Copy)]
+struct Asked<'a> {
+    command: Command,
+    line: &'a [u8],
+    mark: u8,
+}
+
+impl<'a> Asked<'a> {
+    // The file that the command changes or makes, or else looks at.
+    fn path(self) -> &'a [u8] {
+        let i = match self.command {
+            Command::Make(..) => 6,
+            Command::Export(_) => 3,
+            _ => 1,
+        };
+        words::word(self.line, self.mark, i)
+    }
+
+    // The file that it reads beside that one: IMAGE, or else DATA or STRIP.
+    fn from(self) -> &'a [u8] {
+        let i = if matches!(self.command, Command::Export(_)) {
+            1
+        } else {
+            5
+        };
+        words::word(self.line, self.mark, i)
+    }
+
+    // Whether it makes a new file; one that is there already stays.
+    fn is_making(self) -> bool {
+        matches!(
+            self.command,
+            Command::Make(..) | Command::Export(_) | Command::Import
+        )
+    }
 }
 
 // Room for the other files of a command: data, an image that is only read, or column files.
@@ -33,42 +63,32 @@ fn blank_files() -> [u8; FILES_ROOM]
 }
 
 // report: the lines of the report program.
-fn report(rt: &(impl Print + Eprint), image: &[u8]) -> Answer {
-    if let Err(e) = stripe::read(image) {
-        return Answer::Refused(e);
-    }
+fn report(rt: &(impl Print + Eprint), image: &[u8]) -> Result<Answer, Answer> {
+    stripe::read(image)?;
     files::check_output(rt, reporting::describe(rt, image));
-    Answer::Said
-}
-
-// The commands that only look at an image.
-fn view_by(rt: &(impl Print + Eprint), command: Command, image: &[u8]) -> Answer {
-    match command {
-        Command::Check => images::check(image),
-        Command::Show(lost, column, row) => images::show(rt, image, lost, column, row),
-        _ => report(rt, image),
-    }
+    Ok(Answer::Said)
 }
 
 // A command that only looks at an image.
 fn view(
     rt: &(impl Files + Print + Eprint),
-    command: Command,
-    path: &[u8],
+    asked: Asked,
     image: &mut [u8],
-) -> Answer {
-    let Taken::Bytes(n) = files::take(rt, path, image) else {
-        return Answer::Said;
-    };
-    view_by(rt, command, &image[0..n])
+) -> Result<Answer, Answer> {
+    let n = files::take(rt, asked.path(), image).ok_or(Answer::Said)?;
+    let image = &image[..n];
+    match asked.command {
+        Command::Check => Ok(Answer::Word(parity::check(image)?)),
+        Command::Show(lost, column, row) => images::show(rt, image, lost, column, row),
+        _ => report(rt, image),
+    }
 }
 
-// The answer of a write.
-fn accepted(written: Result<Accepted, Refused>) -> Answer {
-    match written {
-        Ok(Accepted { revision, count }) => Answer::Accepted(revision, count),
-        Err(Refused::Aged(age)) => Answer::Aged(age),
-        Err(Refused::Other(e)) => Answer::Refused(e),
+// The answer of a write that is refused.
+fn refused(e: Refused) -> Answer {
+    match e {
+        Refused::Aged(age) => Answer::Aged(age),
+        Refused::Other(e) => Answer::Refused(e),
     }
 }
 
@@ -82,28 +102,18 @@ fn write_strip(
     from: &[u8],
     path: &[u8],
     image: &mut [u8],
-) -> Changed
-    ensures { result.length ≤ length image.new }
+) -> Result<Changed, Answer>
+    ensures { IfOk result (λ changed. changed.length ≤ length image.new) }
 {
     let mut strip = [0u8; Params::LARGEST_STRIP + 1];
-    let Taken::Bytes(m) = files::take(rt, from, &mut strip) else {
-        return images::nothing();
-    };
-    let Taken::Bytes(n) = files::take(rt, path, image) else {
-        return images::nothing();
-    };
-    let written = away::write(&mut image[0..n], lost, column, row, base, &strip[0..m]);
-    Changed {
-        answer: accepted(written),
+    let m = files::take(rt, from, &mut strip).ok_or(Answer::Said)?;
+    let n = files::take(rt, path, image).ok_or(Answer::Said)?;
+    let written = away::write(&mut image[..n], lost, column, row, base, &strip[..m]);
+    let Accepted { revision, count } = written.map_err(refused)?;
+    Ok(Changed {
+        answer: Answer::Accepted(revision, count),
         length: n,
-    }
-}
-
-// How many bytes were measured; 0 where that was refused.
-fn measured_room(measured: Result<usize, Refusal>) -> usize
-    ensures { result ≡ answer_value measured }
-{
-    measured.unwrap_or(0)
+    })
 }
 
 // export: the file of one column of an image.
@@ -113,158 +123,123 @@ fn export(
     from: &[u8],
     file: &mut [u8],
     image: &mut [u8],
-) -> Changed
+) -> Result<Changed, Answer>
     requires { 1874176 ≤ length file.old }
-    ensures { result.length ≤ length file.new }
+    ensures { IfOk result (λ changed. changed.length ≤ length file.new) }
 {
-    let Taken::Bytes(m) = files::take(rt, from, image) else {
-        return images::nothing();
-    };
-    let n = measured_room(columns::file_length(&image[0..m], column));
-    let outcome = columns::export(&image[0..m], column, &mut file[0..n]);
-    Changed {
-        answer: images::said(outcome),
+    let m = files::take(rt, from, image).ok_or(Answer::Said)?;
+    let n = columns::file_length(&image[..m], column)?;
+    columns::export(&image[..m], column, &mut file[..n])?;
+    Ok(Changed {
+        answer: Answer::Done,
         length: n,
-    }
-}
-
-// The answer of an import.
-fn absent(imported: Result<u64, Refusal>) -> Answer {
-    match imported {
-        Ok(w) => Answer::Absent(w),
-        Err(e) => Answer::Refused(e),
-    }
+    })
 }
 
 // import: the image of column files.
 fn import(
     rt: &(impl Files + Eprint),
-    line: &[u8],
-    mark: u8,
+    asked: Asked,
     image: &mut [u8],
     other: &mut [u8],
-) -> Changed
+) -> Result<Changed, Answer>
     requires { 1874176 ≤ length image.old }
-    ensures { result.length ≤ length image.new }
+    ensures { IfOk result (λ changed. changed.length ≤ length image.new) }
 {
-    let Taken::Bytes(m) = files::take_each(rt, line, mark, 2, other) else {
-        return images::nothing();
-    };
-    let n = measured_room(columns::files_length(&other[0..m]));
-    let imported = columns::import(&other[0..m], &mut image[0..n]);
-    Changed {
-        answer: absent(imported),
+    let m = files::take_each(rt, asked.line, asked.mark, 2, other).ok_or(Answer::Said)?;
+    let n = columns::files_length(&other[..m])?;
+    let absent = columns::import(&other[..m], &mut image[..n])?;
+    Ok(Changed {
+        answer: Answer::Absent(absent),
         length: n,
-    }
-}
-
-// Whether a command makes a new file; one that is there already stays.
-fn is_making(command: Command) -> bool {
-    match command {
-        Command::Make(_, _, _, _) => true,
-        Command::Export(_) => true,
-        Command::Import => true,
-        Command::Check => false,
-        Command::Refill => false,
-        Command::Write(_, _, _, _) => false,
-        Command::Rebuild(_) => false,
-        Command::Show(_, _, _) => false,
-        Command::Report => false,
-        Command::Help => false,
-        Command::Usage => false,
-    }
-}
-
-// Which word of a command names the file that it reads beside the one that it makes or changes: IMAGE, or else DATA or STRIP.
-fn from_at(command: Command) -> usize {
-    match command {
-        Command::Export(_) => 1,
-        _ => 5,
-    }
+    })
 }
 
 // The commands that make or change a file, in its buffer.
 fn change_by(
     rt: &(impl Files + Eprint),
-    command: Command,
-    line: &[u8],
-    mark: u8,
-    path: &[u8],
+    asked: Asked,
     image: &mut [u8],
     other: &mut [u8],
-) -> Changed
+) -> Result<Changed, Answer>
     requires { 1874176 ≤ length image.old }
-    ensures { result.length ≤ length image.new }
+    ensures { IfOk result (λ changed. changed.length ≤ length image.new) }
 {
-    if is_making(command) && !files::is_free(rt, path) {
-        return images::nothing();
+    let path = asked.path();
+    if asked.is_making() && !files::is_free(rt, path) {
+        return Err(Answer::Said);
     }
-    let from = words::word(line, mark, from_at(command));
-    match command {
+    let from = asked.from();
+    match asked.command {
         Command::Make(p, k, r, b) => images::make(rt, p, k, r, b, from, image, other),
         Command::Write(column, row, base, lost) => {
             write_strip(rt, column, row, base, lost, from, path, image)
         }
         Command::Rebuild(lost) => images::rebuild_lost(rt, lost, path, image),
         Command::Export(column) => export(rt, column, from, image, other),
-        Command::Import => import(rt, line, mark, image, other),
+        Command::Import => import(rt, asked, image, other),
         _ => images::refill(rt, path, image),
     }
 }
 
-// Makes the new file, which keeps others from changing the image at the same time, then changes the image and keeps it.
-fn change_beside(
-    rt: &(impl Files + Eprint),
-    command: Command,
-    line: &[u8],
-    mark: u8,
-    path: &[u8],
+// Changes the image, and keeps it in the new file, which then takes the image's name.
+fn change_into<R: Files + Eprint>(
+    rt: &R,
+    asked: Asked,
+    file: &mut R::File,
     new: &[u8],
     image: &mut [u8],
     other: &mut [u8],
-) -> Answer
+) -> Result<Answer, Answer>
     requires { 1874176 ≤ length image.old }
 {
-    let mut file = match files::create(rt, new) {
-        Ok(file) => file,
-        Err(e) => {
-            files::fail(rt, new, &e);
-            return Answer::Said;
-        }
-    };
-    let changed = change_by(rt, command, line, mark, path, image, other);
-    let answer = changed.answer;
-    let n = changed.length;
-    files::keep(rt, answer, &mut file, path, new, &image[0..n])
+    let changed = change_by(rt, asked, image, other)?;
+    files::keep(rt, file, asked.path(), new, &image[..changed.length]).ok_or(Answer::Said)?;
+    Ok(changed.answer)
+}
+
+// Makes the new file, which keeps others from changing the image at the same time, then changes the image; the new file is removed where nothing comes of it.
+fn change_beside(
+    rt: &(impl Files + Eprint),
+    asked: Asked,
+    new: &[u8],
+    image: &mut [u8],
+    other: &mut [u8],
+) -> Result<Answer, Answer>
+    requires { 1874176 ≤ length image.old }
+{
+    let mut file = files::told(rt, new, files::create(rt, new)).ok_or(Answer::Said)?;
+    let outcome = change_into(rt, asked, &mut file, new, image, other);
+    if outcome.is_err() {
+        files::remove(rt, new);
+    }
+    outcome
 }
 
 // A command that changes an image.
 fn change(
     rt: &(impl Files + Eprint),
-    command: Command,
-    line: &[u8],
-    mark: u8,
-    path: &[u8],
+    asked: Asked,
     image: &mut [u8],
     other: &mut [u8],
-) -> Answer
+) -> Result<Answer, Answer>
     requires { 1874176 ≤ length image.old }
 {
+    let path = asked.path();
     if files::is_link(rt, path) {
         files::complain(rt, path, "a link; name the file that it leads to");
-        return Answer::Said;
+        return Err(Answer::Said);
     }
     let mut name = [0u8; 4096];
-    let n = files::name_new(path, &mut name);
-    if n == 0 {
+    let Some(n) = files::name_new(path, &mut name) else {
         files::complain(rt, path, "too long a name");
-        return Answer::Said;
-    }
-    change_beside(rt, command, line, mark, path, &name[0..n], image, other)
+        return Err(Answer::Said);
+    };
+    change_beside(rt, asked, &name[..n], image, other)
 }
 
 // What there is to know of the commands.
-fn help(rt: &(impl Print + Eprint)) -> Answer {
+fn help(rt: &(impl Print + Eprint)) {
     let lines = rt.write_all(
         b"depot make P K R B DATA IMAGE                    a new image of the data, revisions 0
 depot check IMAGE                                the word of wrong parities; 0: all right
@@ -282,71 +257,51 @@ refused 17 UNCLEAR 0: they lie exactly 2^31 apart, so that nobody can tell which
 ",
     );
     files::check_output(rt, lines);
-    Answer::Said
 }
 
 // One line of usage, on standard error.
-fn usage(rt: &impl Eprint) -> Answer {
+fn usage(rt: &impl Eprint) {
     let _ = rt.eprintln(
         "usage: depot make P K R B DATA IMAGE | check IMAGE | refill IMAGE | write IMAGE COLUMN ROW BASE STRIP [LOST] | rebuild IMAGE LOST | show IMAGE LOST COLUMN ROW | export IMAGE COLUMN FILE | import IMAGE FILE.. | report IMAGE | help",
     );
-    Answer::Said
 }
 
-// Which word of a command names the file that it changes or makes, or else looks at.
-fn path_at(command: Command) -> usize {
-    match command {
-        Command::Make(_, _, _, _) => 6,
-        Command::Export(_) => 3,
-        _ => 1,
-    }
-}
-
-// Does what a command asks, in two buffers.
+// Does what a command asks, in two buffers; an Err is what to answer where it could not be done.
 fn perform(
     rt: &(impl Files + Print + Eprint),
-    command: Command,
-    line: &[u8],
-    mark: u8,
+    asked: Asked,
     image: &mut [u8],
     other: &mut [u8],
-) -> Answer
+) -> Result<Answer, Answer>
     requires { 1874176 ≤ length image.old }
 {
-    let path = words::word(line, mark, path_at(command));
-    match command {
+    match asked.command {
         Command::Help => help(rt),
         Command::Usage => usage(rt),
-        Command::Check => view(rt, command, path, image),
-        Command::Report => view(rt, command, path, image),
-        Command::Show(_, _, _) => view(rt, command, path, image),
-        _ => change(rt, command, line, mark, path, image, other),
+        Command::Check | Command::Report | Command::Show(..) => return view(rt, asked, image),
+        _ => return change(rt, asked, image, other),
     }
+    Ok(Answer::Said)
 }
 
 // Does what the words of a line ask, and answers.
 pub fn run(rt: &(impl Files + Print + Eprint), line: &[u8], mark: u8) {
     let mut image = files::blank();
     let mut other = blank_files();
-    tell(
-        rt,
-        perform(
-            rt,
-            words::parse(line, mark),
-            line,
-            mark,
-            &mut image,
-            &mut other,
-        ),
-    );
+    let asked = Asked {
+        command: words::parse(line, mark),
+        line,
+        mark,
+    };
+    let (Ok(answer) | Err(answer)) = perform(rt, asked, &mut image, &mut other);
+    files::check_output(rt, answers::say(rt, answer));
 }
 
 // Does what the program's arguments ask.
 pub fn run_arguments(rt: &(impl Env + Files + Print + Eprint)) {
     let mut line = [0u8; LINE_ROOM];
-    let taken = files::gather(rt, &mut line);
-    match taken {
-        Taken::Bytes(n) => run(rt, &line[0..n], 0),
-        Taken::Nothing => tell(rt, usage(rt)),
+    match files::gather(rt, &mut line) {
+        Some(n) => run(rt, &line[..n], 0),
+        None => usage(rt),
     }
 }

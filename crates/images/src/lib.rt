@@ -1,55 +1,17 @@
-// What the depot's commands do with one image in memory: made, refilled, rebuilt, checked, shown.
+// What the depot's commands do with one image in memory: made, refilled, rebuilt, shown.
 #![tactic(auto)]
 
-ghost use Rattle.std.specs.Prelude.{◌≡◌, ◌≤◌, length};
+ghost use Rattle.std.specs.Prelude.{◌≤◌, length, IfOk};
 
 use answers::Answer;
-use files::Taken;
-use refusal::Refusal;
 use std::rt::Files;
 use stripe::Params;
 
-// An image, or a column's file, that a command made or changed in its buffer: the answer, and its length.
+// An image, or a column's file, that a command made or changed in its buffer: what to answer once it is kept, and its length.
 #[derive(Clone, Copy)]
 pub struct Changed {
     pub answer: Answer,
     pub length: usize,
-}
-
-// Nothing was changed, and why was said.
-pub fn nothing() -> Changed
-    ensures { result.length ≡ 0 }
-{
-    Changed {
-        answer: Answer::Said,
-        length: 0,
-    }
-}
-
-// The answer of a call that changes an image.
-pub fn said(outcome: Result<(), Refusal>) -> Answer {
-    match outcome {
-        Ok(()) => Answer::Done,
-        Err(e) => Answer::Refused(e),
-    }
-}
-
-// The length of the image of parameters; 0 where they are refused.
-fn room(p: usize, k: usize, r: usize, b: usize) -> usize
-    ensures { result ≤ 1874176 }
-{
-    match Params::checked(p, k, r, b) {
-        Ok(q) => q.image_length(),
-        Err(_) => 0,
-    }
-}
-
-// check: which parities are wrong.
-pub fn check(image: &[u8]) -> Answer {
-    match parity::check(image) {
-        Ok(w) => Answer::Word(w),
-        Err(e) => Answer::Refused(e),
-    }
 }
 
 // show: the bytes of a strip, restored first if its column is lost.
@@ -59,17 +21,12 @@ pub fn show(
     lost: u64,
     column: usize,
     row: usize,
-) -> Answer {
+) -> Result<Answer, Answer> {
     let mut scratch = [0u8; Params::LARGEST_STRIP];
-    let outcome = rebuild::restore(image, lost, column, row, &mut scratch);
-    if let Err(e) = outcome {
-        return Answer::Refused(e);
-    }
-    files::check_output(
-        rt,
-        rt.write_all(rebuild::show(image, lost, column, row, &scratch)),
-    );
-    Answer::Said
+    rebuild::restore(image, lost, column, row, &mut scratch)?;
+    let strip = rebuild::show(image, lost, column, row, &scratch);
+    files::check_output(rt, rt.write_all(strip));
+    Ok(Answer::Said)
 }
 
 // make: the image of a file's data.
@@ -82,45 +39,44 @@ pub fn make(
     from: &[u8],
     image: &mut [u8],
     other: &mut [u8],
-) -> Changed
+) -> Result<Changed, Answer>
     requires { 1874176 ≤ length image.old }
-    ensures { result.length ≤ length image.new }
+    ensures { IfOk result (λ changed. changed.length ≤ length image.new) }
 {
-    let Taken::Bytes(m) = files::take(rt, from, other) else {
-        return nothing();
-    };
-    let n = room(p, k, r, b);
-    let outcome = parity::make(p, k, r, b, &other[0..m], &mut image[0..n]);
-    Changed {
-        answer: said(outcome),
+    let m = files::take(rt, from, other).ok_or(Answer::Said)?;
+    let n = Params::checked(p, k, r, b)?.image_length();
+    parity::make(p, k, r, b, &other[..m], &mut image[..n])?;
+    Ok(Changed {
+        answer: Answer::Done,
         length: n,
-    }
+    })
 }
 
 // refill: all parity anew.
-pub fn refill(rt: &(impl Files + Eprint), path: &[u8], image: &mut [u8]) -> Changed
-    ensures { result.length ≤ length image.new }
+pub fn refill(rt: &(impl Files + Eprint), path: &[u8], image: &mut [u8]) -> Result<Changed, Answer>
+    ensures { IfOk result (λ changed. changed.length ≤ length image.new) }
 {
-    let Taken::Bytes(n) = files::take(rt, path, image) else {
-        return nothing();
-    };
-    let outcome = parity::refill(&mut image[0..n]);
-    Changed {
-        answer: said(outcome),
+    let n = files::take(rt, path, image).ok_or(Answer::Said)?;
+    parity::refill(&mut image[..n])?;
+    Ok(Changed {
+        answer: Answer::Done,
         length: n,
-    }
+    })
 }
 
 // rebuild: the lost columns from the others.
-pub fn rebuild_lost(rt: &(impl Files + Eprint), lost: u64, path: &[u8], image: &mut [u8]) -> Changed
-    ensures { result.length ≤ length image.new }
+pub fn rebuild_lost(
+    rt: &(impl Files + Eprint),
+    lost: u64,
+    path: &[u8],
+    image: &mut [u8],
+) -> Result<Changed, Answer>
+    ensures { IfOk result (λ changed. changed.length ≤ length image.new) }
 {
-    let Taken::Bytes(n) = files::take(rt, path, image) else {
-        return nothing();
-    };
-    let outcome = rebuild::rebuild(&mut image[0..n], lost);
-    Changed {
-        answer: said(outcome),
+    let n = files::take(rt, path, image).ok_or(Answer::Said)?;
+    rebuild::rebuild(&mut image[..n], lost)?;
+    Ok(Changed {
+        answer: Answer::Done,
         length: n,
-    }
+    })
 }

@@ -1,8 +1,9 @@
 -- `commands::blank_files` meets its contract.
 -- Assumes nothing.
+use lib.ListN.{length-replicate}
 use mathlib.Core.Path.{refl}
-use Rattle.files.proofs.Laws.{zeros_long}
+use Prim.Native.Nat.{ℕ}
 use Rattle.commands.proofs.blank_files.Goals as goal
 
 pub returns : goal.returns
-returns c = (refl, zeros_long 1875272)
+returns c = (refl, length-replicate {A = ℕ} 1875272 0)

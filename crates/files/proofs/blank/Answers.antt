@@ -1,8 +1,9 @@
 -- `files::blank` meets its contract.
 -- Assumes nothing.
+use lib.ListN.{length-replicate}
+use Prim.Native.Nat.{ℕ}
 use mathlib.Core.Path.{refl}
-use Rattle.files.proofs.Laws.{zeros_long}
 use Rattle.files.proofs.blank.Goals as goal
 
 pub returns : goal.returns
-returns c = (refl, zeros_long 1874177)
+returns c = (refl, length-replicate {A = ℕ} 1874177 0)

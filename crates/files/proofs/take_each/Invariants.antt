@@ -1,10 +1,7 @@
--- `files::take_each`: what its loop keeps, and that it ends.
+-- `files::take_each`: what its loop keeps.
 -- Assumes nothing.
-use Rattle.std.proofs.Common.{◌≡◌, ◌≤◌, ◌-◌, length}
+use Rattle.std.proofs.Common.{◌≤◌, length}
 use Rattle.files.proofs.take_each.Given as goal
 
 abbrev pub invariant-loop-i : goal.invariant-loop-i
-invariant-loop-i g l = (l.n ≤ length l.buf) × (length l.buf ≡ length l.fn.buf)
-
-abbrev pub decreases-loop-i : goal.decreases-loop-i
-decreases-loop-i g l = l.count - l.i
+invariant-loop-i g l = l.n ≤ length l.buf
