@@ -12,14 +12,12 @@ use Rattle.std.specs.Prelude.{Result, Ok, Err}
 use Rattle.laws.specs.Choose.{choose}
 use Rattle.laws.specs.Number.{u16}
 use Rattle.laws.specs.Xor.{◌⊕◌}
-use Rattle.stripe.specs.Layout.{image_length}
 use Rattle.stripe.specs.declared.Params.{Params}
 use Rattle.column_file.specs.File.{number_at, file_length}
 use Rattle.file_by_file.proofs.Steps.{Accepted, accepted}
 use Rattle.file_by_file.specs.Files.{step_of, onward, walk, first_params}
 use Rattle.file_by_file.specs.Inner.{Whole, Files, end, more}
 use Rattle.filling.specs.Filled.{put_file, fill, filled_from}
-use Rattle.filling.specs.Inner.{OneReady}
 use Rattle.refusal.specs.declared.Refusal.{Refusal}
 use Rattle.file_by_file.specs.declared.File.{File}
 
@@ -46,10 +44,6 @@ fill_turn s q at t h =
     fill_fuel (length s - at) (suc (length s)) s q at t (omega arith) (omega arith)
     ∙ simp (lt-ltb at (length s) h) (fill_fuel (length s) (length s - (at + file_length q n)) s q (at + file_length q n) (put_file s at q n t) (omega arith) (omega arith))
 
-whole_here : (s : List ℕ) (q : Params) (at : ℕ) → Files s q at → at < length s → Whole s q at (u16 s (at + number_at))
-whole_here s q at (end h) l = absurd (omega arith)
-whole_here s q at (more w f) l = w
-
 files_next : (s : List ℕ) (q : Params) (at : ℕ) → Files s q at → at < length s → Files s q (at + file_length q (u16 s (at + number_at)))
 files_next s q at (end h) l = absurd (omega arith)
 files_next s q at (more w f) l = f
@@ -57,20 +51,8 @@ files_next s q at (more w f) l = f
 -- ---- the turns of `put_files`
 
 module _ (s : List ℕ) (q : Params) (at : ℕ) (F : Files s q at) (l : at < length s) where
-  pub number_there : at + number_at + 2 ≤ length s
-  number_there = omega (arith, (whole_here s q at F l).here)
-
   module _ (n : ℕ) (e : n ≡ u16 s (at + number_at)) where
-    pub taken_here : (t : List ℕ) → length t ≡ image_length q → OneReady s t q at n
-    taken_here t r = record { whole = rw e (whole_here s q at F l); room = r }
-
     module _ (size : ℕ) (hs : size ≡ file_length q n) where
-      pub place_after : at + size ≤ length s
-      place_after = let g : Whole s q at n = rw e (whole_here s q at F l) in omega (arith, g.here)
-
-      pub place_nearer : length s - (at + size) < length s - at
-      place_nearer = omega arith
-
       pub files_after : Files s q (at + size)
       files_after = rw (hs, e) (files_next s q at F l)
 

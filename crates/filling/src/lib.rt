@@ -57,6 +57,7 @@ fn put_files(files: &[u8], q: Params, image: &mut [u8])
     ensures { image.new ≡ filled_from files.now q 0 image.old }
 {
     let mut at: usize = 0;
+    // Stays: each file's own numbers tell where the next one starts, so the places are no range, no step and no chunks.
     while at < files.len() {
         let n = stripe::number(files, at + column_file::COLUMN_AT);
         put_file(files, at, q, n, image);

@@ -5,7 +5,6 @@ use Rattle.laws.specs.Left.{Left}
 use Rattle.laws.specs.Choose.{choose, below}
 use Rattle.laws.specs.Bit.{pack}
 use Rattle.refusal.specs.declared.Refusal.TheVariants.{Width, Room}
-use Rattle.refusal.specs.Number.{number_of}
 use Rattle.stripe.specs.declared.Params.{Params}
 use Rattle.stripe.specs.Params.{checked_of}
 use Rattle.stripe.specs.Layout.{column_length, image_length, parity_at, data_byte}

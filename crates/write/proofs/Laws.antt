@@ -14,7 +14,7 @@ use Rattle.laws.proofs.Patch.{patch_front, patch_all, is_patch, patch_by, patche
 use Rattle.laws.proofs.Tab.{length_tab, get_or_tab}
 use Rattle.laws.specs.Bit.{bit}
 use Rattle.laws.specs.Number.{put32}
-use Rattle.laws.specs.Part.{tab, put}
+use Rattle.laws.specs.Part.{tab}
 use Rattle.laws.specs.Patch.{Patched, patch}
 use Rattle.laws.specs.Sum.{pick}
 use Rattle.laws.specs.Xor.{◌⊕◌}
@@ -50,9 +50,6 @@ module _ (s : List ℕ) (q : Params) (i t : ℕ) (v : List ℕ) (T : Target s q 
   pub strip_fits : at + length v ≤ length s
   strip_fits = omega (arith, T.width, T.accepted.len, strip_in q i t T.column T.row, parity_in q)
 
-  pub strip_differs : (d : List ℕ) → length d ≡ q.b → Strips s at v d
-  strip_differs d l = record { there = strip_fits; same = l ∙ sym T.width }
-
   module _ (d : List ℕ) (f : d ≡ tab (length v) (differed s at v)) where
     difference_byte : (x : ℕ) → x < q.b → get_or d x 0 ≡ difference s q i t v x
     unfolding difference differed
@@ -69,16 +66,6 @@ module _ (s : List ℕ) (q : Params) (i t : ℕ) (v : List ℕ) (T : Target s q 
     }
 
 -- ---- the strip in its place, and the revision
-
-module _ (s u : List ℕ) (q : Params) (m i t : ℕ) (v : List ℕ) (n : ℕ) (T : Target s q i t v) (M : Moved s u q m i t v n) (at : ℕ) (e : at ≡ strip_at q i t) where
-  pub moved_fits : at + length v ≤ length u
-  moved_fits =
-      let f : ℕ → ℕ = present_moved s q m i t (difference s q i t v) in
-      let l : length u ≡ length s = (patched s u (parity_from q) (q.r * column_length q) f (omega (arith, T.accepted.len, parity_end q)) M.bytes).len in
-      omega (arith, strip_fits s q i t v T at e)
-
-  pub placed : (y : List ℕ) → y ≡ put u at v → Placed s y q m i t v n
-  placed y f = record { counted = M.counted; bytes = f ∙ ap₂ (λ (l : List ℕ) (o : ℕ). put l o v) M.bytes e }
 
 -- the length stays
 pub placed_length : (s u : List ℕ) (q : Params) (m i t : ℕ) (v : List ℕ) (n : ℕ) → Target s q i t v → Placed s u q m i t v n → length u ≡ length s

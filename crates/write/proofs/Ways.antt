@@ -1,6 +1,6 @@
 -- Each way out of a write, and what it leaves.
 -- Assumes nothing.
-use Prim.Native.Nat.{ℕ, ◌+◌, ◌-◌, ◌<◌, ◌≤◌}
+use Prim.Native.Nat.{ℕ, ◌-◌, ◌<◌, ◌≤◌}
 use mathlib.Core.Bool.{Bool, true, false, not}
 use mathlib.Core.List.{List}
 use mathlib.Core.Path.{◌≡◌, refl, sym, ap, ◌∙◌}
@@ -9,12 +9,10 @@ use lib.ListN.{length}
 use borrow.Author.Tests.{le-ltb, lt-ltb, ne_eqb, eq-eqb, not-false, not-true}
 use Rattle.std.specs.Prelude.{Result, Ok, Err}
 use Rattle.laws.specs.Left.{Left, Leaves}
-use Rattle.laws.specs.Number.{u32}
 use Rattle.refusal.specs.declared.Refusal.{Refusal}
 use Rattle.refusal.specs.declared.Refusal.TheVariants.{Width, Column, Row}
 use Rattle.stripe.proofs.Frame.{read_image}
-use Rattle.stripe.proofs.Places.{revision_in}
-use Rattle.stripe.specs.Layout.{revision_at, revision_of, rows}
+use Rattle.stripe.specs.Layout.{revision_of, rows}
 use Rattle.stripe.specs.Reading.{Image, read_of}
 use Rattle.stripe.specs.declared.Params.{Params}
 use Rattle.revision.specs.Revision.{judged, is_current}
@@ -38,12 +36,6 @@ module _ (s : List ℕ) (l : Left (Result Accepted Refused)) (y : Age) (z : Bool
 
   pub age_current : not z ≡ false → (x : Result Accepted Refused) (u : List ℕ) → Leaves l x u → Leaves (by_age s l y) x u
   age_current n x u L = let e : is_current y ≡ true = sym o ∙ not-false z n in record { answered = rw e L.answered; left = rw e L.left }
-
-pub revision_fits : (s : List ℕ) (q : Params) (i a : ℕ) → Image s q → i < q.k → a ≡ revision_at i → a + 4 ≤ length s
-revision_fits s q i a I h e = omega (arith, I.len, revision_in q i h)
-
-pub age_is : (s : List ℕ) (i a n b : ℕ) (y : Age) → a ≡ revision_at i → n ≡ u32 s a → y ≡ judged n b → y ≡ judged (revision_of s i) b
-age_is s i a n b y e f g = g ∙ ap (λ (m : ℕ). judged m b) (f ∙ ap (u32 s) e)
 
 -- ---- the tests in their order
 

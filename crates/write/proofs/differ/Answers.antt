@@ -1,12 +1,7 @@
 -- `write::differ` meets its contract.
 -- Assumes nothing.
-use native.Mathlib.Omega.{arith}
-use Rattle.laws.proofs.Patch.{patch_none}
 use Rattle.write.proofs.Laws.{differ_more, differ_end}
 use Rattle.write.proofs.differ.Goals as goal
-
-pub loop-x-init : goal.loop-x-init
-loop-x-init c = patch_none _ _ _
 
 pub loop-x-preserved : goal.loop-x-preserved
 loop-x-preserved c = search differ_more
