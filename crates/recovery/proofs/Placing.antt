@@ -55,6 +55,8 @@ module _ (q : Params) (x n : ℕ) where
   unfolding place_of
   place_data h e = e ∙ sym (ap (λ (b : Bool). choose b (parity_at q x) (data_at q (x - q.r))) (le-ltb x q.r h))
 
+pub ruleset placed = (place_parity, place_data)
+
 -- what holds of each place of two lists holds of each place of both
 pub append_each : (P : ℕ → Type 0) (k l : List ℕ) → ((v : ℕ) → v < length k → P (get_or k v 0)) → ((v : ℕ) → v < length l → P (get_or l v 0))
     → (v : ℕ) → v < length (k ++ l) → P (get_or (k ++ l) v 0)
@@ -86,3 +88,5 @@ module _ (q : Params) (m : ℕ) where
       columns : (l : List ℕ) (lo : ℕ) → q.r ≤ lo → Rising lo (q.r + q.k) l → map (place_of q) l ≡ map (λ (z : ℕ). data_at q (z - q.r)) l
       columns [] lo h r = refl
       columns (x ∷ l) lo h r = ap₂ ◌∷◌ (sym (place_data q x (data_at q (x - q.r)) (omega arith) refl)) (columns l (suc x) (omega arith) r.2)
+
+pub ruleset placings = (sources_placeable, places_are)

@@ -2,11 +2,11 @@
 -- Assumes nothing.
 use Prim.Native.Nat.{ℕ, ◌+◌, ◌-◌, ◌<◌, ◌≤◌}
 use mathlib.Core.Bool.{Bool, true, false}
-use mathlib.Core.List.{List, map}
+use mathlib.Core.List.{List, ◌++◌, map}
 use mathlib.Core.Path.{◌≡◌, sym, ap, subst, ◌∙◌}
 use native.Mathlib.Omega.{arith}
 use lib.Dec.{T, ltb}
-use lib.ListN.{length, get_or, take, length-append, length-map}
+use lib.ListN.{length, get_or, take, drop, length-append, length-map}
 use borrow.Rule.Slice.PartMut.{put_mid}
 use Rattle.laws.proofs.Tab.{map_at}
 use Rattle.laws.specs.Bit.{weight}
@@ -21,7 +21,7 @@ use Rattle.pattern.proofs.Count.{length_lost, length_present, length_consulted, 
 use Rattle.pattern.specs.Pattern.{few_lost, lost_exponents, present_exponents, consulted}
 use Rattle.recovery.proofs.Extending.{length_matrix_row, length_parity_row, length_with}
 use Rattle.recovery.proofs.Placing.{append_each}
-use Rattle.recovery.proofs.Sourcing.{lent_front, lent_room}
+use Rattle.recovery.proofs.Sourcing.{first_of}
 use Rattle.recovery.specs.Words.{places, matrix_row, row_words, data_words, parity_row, parity_words, column_words}
 
 module _ (p : ℕ) (xs ys zs : List ℕ) where
@@ -59,19 +59,17 @@ module _ (q : Params) (m : ℕ) where
 
 -- ---- as arrays v and w have them in their first places
 
+-- as code lends the part from place 0
+lent_front : (l w : List ℕ) (k : ℕ) → length l ≡ k → take (k - 0) (put_mid 0 (k - 0) w l) ≡ l
+lent_front l w k e = let z : k - 0 ≡ k = omega arith in ap (λ (j : ℕ). take j (l ++ drop j w)) z ∙ (first_of l w k e).0
+
 module _ (q : Params) (m : ℕ) (v ats : List ℕ) (f : T (few_lost q m)) (A : ats ≡ places q m) where
   pub places_lent : take (q.k - 0) (put_mid 0 (q.k - 0) v ats) ≡ places q m
   places_lent = lent_front ats v q.k (ap length A ∙ length_places q m f) ∙ A
 
-  pub places_room : q.k ≤ length (put_mid 0 (q.k - 0) v ats)
-  places_room = lent_room ats v q.k (ap length A ∙ length_places q m f)
-
 module _ (q : Params) (m n : ℕ) (w ws : List ℕ) (W : ws ≡ column_words q m n) where
   pub words_lent : take (q.k - 0) (put_mid 0 (q.k - 0) w ws) ≡ column_words q m n
   words_lent = lent_front ws w q.k (ap length W ∙ length_column_words q m n) ∙ W
-
-  pub words_room : q.k ≤ length (put_mid 0 (q.k - 0) w ws)
-  words_room = lent_room ws w q.k (ap length W ∙ length_column_words q m n)
 
 -- ---- each place is that of a column
 

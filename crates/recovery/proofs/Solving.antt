@@ -47,6 +47,8 @@ module _ (p : ℕ) (P : Modulus p) where
   unfolding unit_of
   unit_is s c u e = ap₂ (λ (l : List ℕ) (x : ℕ). set l u (x - 2)) e top
 
+pub ruleset units = (unit_top, unit_is)
+
 words_zeros : (p n : ℕ) → Words p (replicate n 0)
 words_zeros p zero = tt
 words_zeros p (suc n) = (pow_pos p, words_zeros p n)

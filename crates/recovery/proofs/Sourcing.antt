@@ -63,6 +63,8 @@ module _ (q : Params) (m : ℕ) (R : Repairable q m) (s : List ℕ) (room : leng
     unfolding sources
     sources_are zs z = tail_put (xs ++ drop g s) zs g ∙ ap₂ ◌++◌ (take_at xs (drop g s) g length_xs ∙ x) z
 
+pub ruleset sourcing = (consulted_places, present_places, sources_are)
+
 -- ---- the words of a lost column n, by both lists
 
 module _ (q : Params) (m : ℕ) (R : Repairable q m) (from ys : List ℕ) (F : from ≡ sources q m) (Y : ys ≡ lost_exponents q m) where
@@ -120,26 +122,12 @@ module _ (q : Params) (m : ℕ) (R : Repairable q m) (from ys : List ℕ) (F : f
 -- ---- both lists as arrays v and w have them in their first places
 
 -- a list l in the first k places of w
-first_of : (l w : List ℕ) (k : ℕ) → length l ≡ k → (take k (l ++ drop k w) ≡ l) × (k ≤ length (l ++ drop k w))
+pub first_of : (l w : List ℕ) (k : ℕ) → length l ≡ k → (take k (l ++ drop k w) ≡ l) × (k ≤ length (l ++ drop k w))
 first_of l w k e = (take_at l (drop k w) k e, omega (arith, length-append l (drop k w)))
-
--- the same of a part that code lends from place 0
-module _ (l w : List ℕ) (k : ℕ) (e : length l ≡ k) where
-  same_part : put_mid 0 (k - 0) w l ≡ l ++ drop k w
-  same_part = let z : k - 0 ≡ k = omega arith in ap (λ (j : ℕ). l ++ drop j w) z
-
-  pub lent_front : take (k - 0) (put_mid 0 (k - 0) w l) ≡ l
-  lent_front = let z : k - 0 ≡ k = omega arith in ap (λ (j : ℕ). take j (l ++ drop j w)) z ∙ (first_of l w k e).0
-
-  pub lent_room : k ≤ length (put_mid 0 (k - 0) w l)
-  lent_room = omega (arith, ap length same_part, (first_of l w k e).1)
 
 module _ (q : Params) (m : ℕ) (R : Repairable q m) (v from : List ℕ) (F : from ≡ sources q m) where
   pub from_lent : take q.k (from ++ drop q.k v) ≡ sources q m
   from_lent = (first_of from v q.k (ap length F ∙ length_sources q m R)).0 ∙ F
-
-  pub from_room : q.k ≤ length (from ++ drop q.k v)
-  from_room = (first_of from v q.k (ap length F ∙ length_sources q m R)).1
 
 module _ (q : Params) (m : ℕ) (g : ℕ) (e : g ≡ weight m q.k) where
   pub lost_room : Repairable q m → g ≤ 30

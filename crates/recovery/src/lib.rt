@@ -17,6 +17,7 @@ ghost use Rattle.recovery.specs.Words.{matrix_row, parity_row, row_words, data_w
 use stripe::Params;
 
 // The unit vector u: e = x + x^2 + .. + x^(p-1) in place u.
+#[tactic(auto, using(crate::proofs::Solving::units))]
 fn unit(u: usize, p: usize, out: &mut [u64])
     requires { Modulus p × (u < length out.old) }
     ensures { out.new ≡ unit_of p (length out.old) u }
@@ -89,6 +90,7 @@ fn parity_words(from: &[usize], ys: &[usize], j: usize, p: usize, out: &mut [u64
 }
 
 // The exponents of the columns that lost ones are found from: the consulted parity columns, then the present data columns.
+#[tactic(auto, using(crate::proofs::Sourcing::sourcing))]
 fn sources(q: Params, lost: u64, out: &mut [usize])
     requires { Repairable q lost × (length out.old ≡ q.k) }
     ensures { out.new ≡ sources q lost }
@@ -99,6 +101,7 @@ fn sources(q: Params, lost: u64, out: &mut [usize])
 }
 
 // Where the column of an exponent starts.
+#[tactic(auto, using(crate::proofs::Placing::placed))]
 fn place(q: Params, x: usize) -> usize
     requires { Admitted q × (x < q.k + q.r) }
     ensures { result ≡ place_of q x }
@@ -122,6 +125,7 @@ fn place_all(q: Params, xs: &mut [usize])
 }
 
 // Where the columns start that lost ones are found from.
+#[tactic(auto, using(crate::proofs::Placing::placings))]
 pub fn places(q: Params, lost: u64, out: &mut [usize])
     requires { Repairable q lost × (length out.old ≡ q.k) }
     ensures { out.new ≡ places q lost }

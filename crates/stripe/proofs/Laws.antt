@@ -63,7 +63,7 @@ admits_tested p x h l e =
     let y : (leb 3 p && not (has_factor p)) ≡ odd_prime p = alike_same _ _ (below_at (λ p. alike (leb 3 p && not (has_factor p)) (odd_prime p)) 62 tested p (omega arith)) in
     rw (e, ← y, le-leb 3 p h, le-leb p 61 l) (and_true (not (has_factor p)))
 
--- ---- the ways out of `admits_shape` and `admits_strip`
+-- ---- an admitted shape
 
 -- "k at least 1, r at least 1, k+r at most p"
 pub record Shaped (p k r : ℕ) : Type 0 where
@@ -76,21 +76,6 @@ unfolding admitted_shape
 shape_is p k r t =
     let u = and_right (leb 1 k) (leb 1 r && leb (k + r) p) t in
     record { k_low = leb→le 1 k (and_left (leb 1 k) _ t); r_low = leb→le 1 r (and_left (leb 1 r) _ u); fits = leb→le (k + r) p (and_right (leb 1 r) _ u) }
-
-pub no_shape : (p k r : ℕ) → (1 ≤ k → 1 ≤ r → k + r ≤ p → ⊥) → false ≡ admitted_shape p k r
-no_shape p k r n = untrue _ (λ t. let s = shape_is p k r t in n s.k_low s.r_low s.fits)
-
-pub shape : (p k r : ℕ) → 1 ≤ k → 1 ≤ r → k + r ≤ p → true ≡ admitted_shape p k r
-unfolding admitted_shape
-shape p k r f g l = simp (le-leb 1 k f, le-leb 1 r g, le-leb (k + r) p l)
-
-pub no_strip : (b : ℕ) → (1 ≤ b → b ≤ 512 → ⊥) → false ≡ admitted_strip b
-unfolding admitted_strip
-no_strip b n = untrue _ (λ t. n (leb→le 1 b (and_left (leb 1 b) _ t)) (leb→le b 512 (and_right (leb 1 b) _ t)))
-
-pub strip : (b : ℕ) → 1 ≤ b → b ≤ 512 → true ≡ admitted_strip b
-unfolding admitted_strip
-strip b f l = simp (le-leb 1 b f, le-leb b 512 l)
 
 -- ---- the ways out of `checked`: x, y and z are what the three tests gave
 

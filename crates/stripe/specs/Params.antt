@@ -4,7 +4,6 @@ use Rattle.std.specs.Prelude.{ℕ, ◌+◌, ◌≤◌, Bool, ◌&&◌, List, [],
 use Rattle.laws.specs.Choose.{choose}
 use Rattle.algebra.specs.Prime.{odd_prime}
 use Rattle.refusal.specs.declared.Refusal.TheVariants.{Prime, Shape, Strip}
-use Rattle.refusal.specs.Number.{number_of}
 use Rattle.stripe.specs.declared.Params.{Params}
 use Rattle.refusal.specs.declared.Refusal.{Refusal}
 

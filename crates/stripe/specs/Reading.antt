@@ -1,12 +1,11 @@
 -- "Reading tests in this order: at least 2 bytes, else CUT; first count, else COUNT; at least 10 bytes, else CUT; PRIME; SHAPE; STRIP;
 -- shorter than L is CUT; longer is TAIL; then the counts of sections 2, 3, 4, else COUNT."
 -- Assumes nothing.
-use Rattle.std.specs.Prelude.{ℕ, ◌≡◌, List, [], ◌∷◌, length, ltb, eqb, Result, Ok, Err}
+use Rattle.std.specs.Prelude.{ℕ, ◌≡◌, List, length, ltb, eqb, Result, Ok, Err}
 use Rattle.laws.specs.Choose.{choose}
 use Rattle.laws.specs.Number.{u16}
 use Rattle.refusal.specs.declared.Refusal.{Refusal}
 use Rattle.refusal.specs.declared.Refusal.TheVariants.{Cut, Tail, Count}
-use Rattle.refusal.specs.Number.{number_of}
 use Rattle.stripe.specs.declared.Params.{Params}
 use Rattle.stripe.specs.Params.{checked_of, Admitted}
 use Rattle.stripe.specs.Layout.{data_count_at, parity_count_at, image_length}

@@ -2,7 +2,7 @@
 #![tactic(auto)]
 
 ghost use Rattle.std.specs.Prelude.{◌≡◌, ◌+◌, ◌*◌, ◌<◌, ◌≤◌, length, replicate};
-ghost use Rattle.laws.specs.Number.{u16, u32, put16, put32};
+ghost use Rattle.laws.specs.Number.{u16, u32, put32};
 ghost use Rattle.stripe.specs.Params.{admitted_prime, admitted_shape, admitted_strip, checked_of, Admitted};
 ghost use Rattle.stripe.specs.Layout.{rows, column_length, revision_at, data_at, strip_at, parity_at, parity_strip_at, image_length};
 ghost use Rattle.stripe.specs.Reading.{sections_of, read_of};
