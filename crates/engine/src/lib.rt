@@ -46,7 +46,7 @@ fn mask(w: u64, q: usize, p: usize) -> u64
 }
 
 // XORs the bytes of src into those of s.
-fn add(s: &mut [u8], src: &[u8])
+pub fn add(s: &mut [u8], src: &[u8])
     requires { length s.old ≡ length src.now }
     ensures { Patched s.old s.new 0 (length s.old) (λ i. get_or s.old i 0 ⊕ get_or src.now i 0) }
 {

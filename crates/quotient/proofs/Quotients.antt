@@ -1,53 +1,45 @@
 -- What adding up the rows, and putting or comparing the rows of a quotient, owe.
 -- Assumes nothing.
-use Prim.Native.Nat.{ℕ, suc, ◌+◌, ◌-◌, ◌*◌, ◌%◌, ◌^◌, ◌≤◌, ◌<◌}
+use Prim.Native.Nat.{ℕ, suc, ◌+◌, ◌-◌, ◌*◌, ◌%◌, ◌≤◌, ◌<◌}
 use mathlib.Core.List.{List}
 use mathlib.Core.Logic.{◌≢◌}
-use mathlib.Core.Path.{◌≡◌, sym, ap, ◌∙◌, refl}
+use mathlib.Core.Path.{◌≡◌, sym, ap, ap₂, subst, ◌∙◌, refl}
 use native.Mathlib.Decide.{dec_lt}
-use native.Mathlib.Nat.{zero-add, mod-eq_of_lt, mod-add-mod, mod-lt}
+use native.Mathlib.Nat.{zero-add, mod-add-mod}
 use native.Mathlib.Omega.{arith}
 use lib.ListN.{get_or, length, replicate, length-replicate, get_or-replicate}
 use Rattle.laws.proofs.Place.{Place, place, before, inside, after}
 use Rattle.laws.proofs.Rows.{row_in}
 use Rattle.laws.proofs.Sum.{sum_back}
-use Rattle.laws.proofs.Xor.{⊕_zero, ⊕_assoc, zero_⊕}
+use borrow.Rule.Slice.PartMut.{mid_of, put_mid}
+use Rattle.laws.proofs.Mid.{get_or_mid, length_mid, mid_patched}
 use Rattle.laws.specs.Patch.{Patched}
 use Rattle.laws.specs.Sum.{sum}
 use Rattle.laws.specs.Xor.{◌⊕◌}
 use Rattle.laws.specs.Part.{row_byte}
-use Rattle.quotient.specs.Lanes.{Totalled, TotalAsked, FinishAsked, Laid, RowPut, with_sum, finished, Shows, Stand, RowStands}
+use Rattle.quotient.specs.Lanes.{Summed, FinishAsked, Laid, finished, Shows, Stand, RowStands}
 
 -- ---- `total`
 
-pub total_none : (acc sum₀ : List ℕ) (w : ℕ) → Totalled acc sum₀ sum₀ 0 w
+pub total_none : (acc : List ℕ) (w : ℕ) → w ≤ 128 → Summed acc (replicate 128 0) 0 w
 unfolding sum
-total_none acc sum₀ w = record { len = refl; bytes = λ x h. sym (⊕_zero (get_or sum₀ x 0)) }
+total_none acc w h = record { whole = length-replicate {A = ℕ} 128 0; bytes = λ x l. get_or-replicate {A = ℕ} 128 x 0 0 (omega arith) }
 
-module _ (acc sum₀ sum₁ : List ℕ) (p w t : ℕ) (A : TotalAsked acc sum₀ p w) (h : t < p) where
-  pub total_room : t * w + w ≤ length acc
-  total_room = omega (arith, A.room, row_in t p w h)
+module _ (acc sum₁ v : List ℕ) (w t k m : ℕ) (S : Summed acc sum₁ t w) (h : w ≤ 128) (e : k ≡ w) (f : m ≡ w)
+    (d : Patched (mid_of 0 k sum₁) v 0 (length (mid_of 0 k sum₁)) (λ x. get_or (mid_of 0 k sum₁) x 0 ⊕ get_or (mid_of (t * w) m acc) x 0)) where
+  sum_put : Patched sum₁ (put_mid 0 k sum₁ v) 0 k (λ x. sum (t + 1) (λ q. row_byte acc w q x))
+  sum_put =
+      let l : length (mid_of 0 k sum₁) ≡ k = length_mid sum₁ 0 k (omega (arith, S.whole)) in
+      mid_patched sum₁ 0 k v _ _ (omega (arith, S.whole)) (rw l at d)
+      (λ x n.
+      let z : suc t ≡ t + 1 = omega arith in
+      ap₂ ◌⊕◌ (get_or_mid sum₁ 0 k x n ∙ ap (λ (y : ℕ). get_or sum₁ y 0) (zero-add x) ∙ S.bytes x (omega arith)) (get_or_mid acc (t * w) m x (omega arith))
+      ∙ sym (sum_back t (λ q. row_byte acc w q x)) ∙ ap (λ (y : ℕ). sum y (λ q. row_byte acc w q x)) z)
 
-  pub total_fits : length acc < 2 ^ 64 → t * w < 2 ^ 64
-  total_fits l = omega (arith, total_room)
-
-  pub total_more : (sum₂ : List ℕ) → Totalled acc sum₀ sum₁ t w → Patched sum₁ sum₂ 0 w (λ x. get_or sum₁ x 0 ⊕ get_or acc (t * w + x) 0) → Totalled acc sum₀ sum₂ (t + 1) w
-  total_more sum₂ T c = record {
-    len = c.len ∙ T.len;
-    bytes = λ x l.
-        let z : suc t ≡ t + 1 = omega arith in
-        ap (λ (y : ℕ). get_or sum₂ y 0) (sym (zero-add x)) ∙ c.inner x l ∙ ap (λ (y : ℕ). y ⊕ row_byte acc w t x) (T.bytes x l)
-        ∙ ⊕_assoc (get_or sum₀ x 0) (sum t (λ q. row_byte acc w q x)) (row_byte acc w t x)
-        ∙ ap (λ (y : ℕ). get_or sum₀ x 0 ⊕ y) (sym (sum_back t (λ q. row_byte acc w q x)) ∙ ap (λ (y : ℕ). sum y (λ q. row_byte acc w q x)) z);
-  }
-
-pub total_end : (acc sum₀ sum₁ : List ℕ) (w t p : ℕ) → Totalled acc sum₀ sum₁ t w → t ≤ p → p ≤ t → Totalled acc sum₀ sum₁ p w
-total_end acc sum₀ sum₁ w t p T h g = let e : t ≡ p = omega arith in rw e at T
+  pub total_more : Summed acc (put_mid 0 k sum₁ v) (t + 1) w
+  total_more = record { whole = sum_put.len ∙ S.whole; bytes = λ x n. ap (λ (y : ℕ). get_or (put_mid 0 k sum₁ v) y 0) (sym (zero-add x)) ∙ sum_put.inner x (omega arith) }
 
 -- ---- the place of row t
-
-pub shift_none : (j p : ℕ) → j < p → j ≡ (0 + j) % p
-shift_none j p h = sym (ap (λ (x : ℕ). x % p) (zero-add j) ∙ mod-eq_of_lt h)
 
 pub shift_next : (f f' t j p : ℕ) → f' ≡ (f + (p - (p - 1))) % p → f ≡ (t + j) % p → t < p - 1 → f' ≡ (t + 1 + j) % p
 shift_next f f' t j p g e h =
@@ -59,25 +51,12 @@ module _ (s acc : List ℕ) (to p b j w t f : ℕ) (F : FinishAsked s acc to p b
   pub rows_room : (s' : List ℕ) → length s' ≡ length s → to + t * b + w ≤ length s'
   rows_room s' l = omega (arith, F.inside, row_in t (p - 1) b h)
 
-  pub row_offset_fits : length s < 2 ^ 64 → t * b < 2 ^ 64
-  row_offset_fits l = omega (arith, rows_room s refl)
+-- row f of acc with the sum added is row n of the quotient
+row_due : (acc sum₁ : List ℕ) (p w j n f k x : ℕ) → Summed acc sum₁ p w → f ≡ (n + j) % p → x < k → x < w → get_or (mid_of (f * w) k acc) x 0 ⊕ get_or sum₁ x 0 ≡ finished acc p w j n x
+unfolding finished
+row_due acc sum₁ p w j n f k x S e h l = ap₂ ◌⊕◌ (get_or_mid acc (f * w) k x h ∙ ap (λ (y : ℕ). row_byte acc w y x) e) (S.bytes x l)
 
-  pub rows_fits : length s < 2 ^ 64 → to + t * b < 2 ^ 64
-  rows_fits l = omega (arith, rows_room s refl)
-
-  pub place_low : f ≡ (t + j) % p → f < p
-  place_low e = let l : 0 < p = omega (arith, F.shift) in omega (arith, mod-lt (t + j) l)
-
-  pub place_room : f ≡ (t + j) % p → f * w + w ≤ length acc
-  place_room e = omega (arith, F.room, row_in f p w (place_low e))
-
-  pub place_fits : f ≡ (t + j) % p → length acc < 2 ^ 64 → f * w < 2 ^ 64
-  place_fits e l = omega (arith, place_room e)
-
--- ---- `puts`
-
-pub laid_none : (s : List ℕ) (to b w : ℕ) (v : ℕ → ℕ → ℕ) → Laid s s to 0 b w v
-laid_none s to b w v = record { len = refl; rows = record { bytes = λ t x h l. absurd (omega arith) }; rest = λ o h. refl }
+-- ---- `finish`
 
 laid_row : (s t u : List ℕ) (to n b w : ℕ) (v : ℕ → ℕ → ℕ) (g : ℕ → ℕ) → w ≤ b → Laid s t to n b w v → Patched t u (to + n * b) w g → ((x : ℕ) → x < w → g x ≡ v n x) → Laid s u to (n + 1) b w v
 laid_row s t u to n b w v g k L c e = record {
@@ -95,66 +74,34 @@ laid_row s t u to n b w v g k L c e = record {
     rest o h (inside i l z) = absurd (h n i (omega arith) l z)
     rest o h (after l) = c.above o l ∙ L.rest o (λ i x m y. h i x (omega arith) y)
 
-pub laid_more : (s t u acc sum₀ : List ℕ) (to p b j w n f : ℕ) → Laid s t to n b w (with_sum acc sum₀ p w j)
-    → RowPut t u acc sum₀ (to + n * b) (f * w) w → f ≡ (n + j) % p → w ≤ b → Laid s u to (n + 1) b w (with_sum acc sum₀ p w j)
-unfolding with_sum
-laid_more s t u acc sum₀ to p b j w n f L c e k =
-    laid_row s t u to n b w (with_sum acc sum₀ p w j) _ k L c.bytes (λ x l. ap (λ (y : ℕ). get_or acc (y * w + x) 0 ⊕ get_or sum₀ x 0) e)
-
-pub laid_end : (s t : List ℕ) (to n m b w : ℕ) (v : ℕ → ℕ → ℕ) → Laid s t to n b w v → n ≤ m → m ≤ n → Laid s t to m b w v
-laid_end s t to n m b w v L h g = let e : n ≡ m = omega arith in rw e at L
-
--- ---- `finish`
-
-sum_is : (acc sum₁ : List ℕ) (p w j t x : ℕ) → w ≤ 128 → Totalled acc (replicate 128 0) sum₁ p w → x < w → with_sum acc sum₁ p w j t x ≡ finished acc p w j t x
-unfolding finished with_sum
-sum_is acc sum₁ p w j t x h T l =
-    ap (λ (y : ℕ). row_byte acc w ((t + j) % p) x ⊕ y)
-    (T.bytes x l ∙ ap (λ (y : ℕ). y ⊕ sum p (λ q. row_byte acc w q x)) (get_or-replicate {A = ℕ} 128 x 0 0 (omega arith)) ∙ zero_⊕ (sum p (λ q. row_byte acc w q x)))
-
-pub laid_finished : (s t acc sum₁ : List ℕ) (to p b j w : ℕ) → FinishAsked s acc to p b j w → Totalled acc (replicate 128 0) sum₁ p w
-    → Laid s t to (p - 1) b w (with_sum acc sum₁ p w j) → Laid s t to (p - 1) b w (finished acc p w j)
-laid_finished s t acc sum₁ to p b j w F T L = record {
-  len = L.len;
-  rows = record { bytes = λ i x h l. L.rows.bytes i x h l ∙ sum_is acc sum₁ p w j i x F.lanes T l };
-  rest = L.rest;
-}
-
-pub total_asked : (s acc : List ℕ) (to p b j w : ℕ) → FinishAsked s acc to p b j w → TotalAsked acc (replicate 128 0) p w
-total_asked s acc to p b j w F = record { lanes = F.lanes; room = F.room; whole = length-replicate {A = ℕ} 128 0 }
-
-pub sum_whole : (acc sum₁ : List ℕ) (p w : ℕ) → Totalled acc (replicate 128 0) sum₁ p w → length sum₁ ≡ 128
-sum_whole acc sum₁ p w T = T.len ∙ length-replicate {A = ℕ} 128 0
-
--- ---- `differs`
-
-pub stand_none : (s : List ℕ) (bad to b w : ℕ) (v : ℕ → ℕ → ℕ) → Shows bad bad (Stand s to 0 b w v)
-stand_none s bad to b w v = record { clean = λ h R. h; told = λ h. (h, record { bytes = λ t x k l. absurd (omega arith) }) }
-
-pub stand_more : (s acc sum₀ : List ℕ) (bad all all' to p b j w n f : ℕ) → f ≡ (n + j) % p → Shows bad all (Stand s to n b w (with_sum acc sum₀ p w j))
-    → Shows all all' (RowStands s acc sum₀ (to + n * b) (f * w) w) → Shows bad all' (Stand s to (n + 1) b w (with_sum acc sum₀ p w j))
-unfolding with_sum
-stand_more s acc sum₀ bad all all' to p b j w n f e S R = record {
-  clean = λ h B. R.clean (S.clean h (record { bytes = λ t x k l. B.bytes t x (omega arith) l })) (record { bytes = λ x l. B.bytes n x (omega arith) l ∙ same x });
-  told = λ h. let r = R.told h in let q = S.told r.0 in (q.0, record { bytes = λ t x k l. row t x k l q.1 r.1 (dec_lt t n) });
-}
-  where
-    same : (x : ℕ) → with_sum acc sum₀ p w j n x ≡ get_or acc (f * w + x) 0 ⊕ get_or sum₀ x 0
-    same x = ap (λ (y : ℕ). get_or acc (y * w + x) 0 ⊕ get_or sum₀ x 0) (sym e)
-
-    row : (t x : ℕ) → t < n + 1 → x < w → Stand s to n b w (with_sum acc sum₀ p w j) → RowStands s acc sum₀ (to + n * b) (f * w) w → Dec (t < n)
-        → get_or s (to + t * b + x) 0 ≡ with_sum acc sum₀ p w j t x
-    row t x k l B C (yes m) = B.bytes t x m l
-    row t x k l B C (no m) = let z : t ≡ n = omega arith in rw z (C.bytes x l ∙ sym (same x))
-
-pub stand_end : (s : List ℕ) (bad all to n m b w : ℕ) (v : ℕ → ℕ → ℕ) → Shows bad all (Stand s to n b w v) → n ≤ m → m ≤ n → Shows bad all (Stand s to m b w v)
-stand_end s bad all to n m b w v S h g = let e : n ≡ m = omega arith in rw e at S
+pub laid_more : (s t v acc sum₁ : List ℕ) (to p b j w n f k m : ℕ) → FinishAsked s acc to p b j w → Summed acc sum₁ p w → Laid s t to n b w (finished acc p w j) → f ≡ (n + j) % p → n < p - 1
+    → k ≡ w → m ≡ w → Patched (mid_of (to + n * b) k t) v 0 (length (mid_of (to + n * b) k t)) (λ x. get_or (mid_of (f * w) m acc) x 0 ⊕ get_or sum₁ x 0)
+    → Laid s (put_mid (to + n * b) k t v) to (n + 1) b w (finished acc p w j)
+laid_more s t v acc sum₁ to p b j w n f k m F S L e h g c d =
+    let i : to + n * b + k ≤ length t = omega (arith, rows_room s acc to p b j w n f F h t L.len) in
+    let l : length (mid_of (to + n * b) k t) ≡ k = length_mid t (to + n * b) k i in
+    let P : Patched t (put_mid (to + n * b) k t v) (to + n * b) k (finished acc p w j n) =
+    mid_patched t (to + n * b) k v _ _ i (rw l at d) (λ x y. row_due acc sum₁ p w j n f m x S e (omega arith) (omega arith)) in
+    laid_row s t (put_mid (to + n * b) k t v) to n b w (finished acc p w j) _ F.fits L (subst (λ (y : ℕ). Patched t (put_mid (to + n * b) k t v) (to + n * b) y (finished acc p w j n)) g P) (λ x y. refl)
 
 -- ---- `compare`
 
-pub stand_finished : (s acc sum₁ : List ℕ) (bad r to p b j w : ℕ) → FinishAsked s acc to p b j w → Totalled acc (replicate 128 0) sum₁ p w
-    → Shows bad r (Stand s to (p - 1) b w (with_sum acc sum₁ p w j)) → Shows bad r (Stand s to (p - 1) b w (finished acc p w j))
-stand_finished s acc sum₁ bad r to p b j w F T S = record {
-  clean = λ h R. S.clean h (record { bytes = λ t x k l. R.bytes t x k l ∙ sym (sum_is acc sum₁ p w j t x F.lanes T l) });
-  told = λ h. let q = S.told h in (q.0, record { bytes = λ t x k l. q.1.bytes t x k l ∙ sum_is acc sum₁ p w j t x F.lanes T l });
+pub stand_more : (s acc sum₁ : List ℕ) (bad all all' to p b j w n f k m : ℕ) → FinishAsked s acc to p b j w → Summed acc sum₁ p w → Shows bad all (Stand s to n b w (finished acc p w j))
+    → f ≡ (n + j) % p → n < p - 1 → k ≡ w → m ≡ w → Shows all all' (RowStands (mid_of (to + n * b) k s) (mid_of (f * w) m acc) sum₁ (length (mid_of (to + n * b) k s)))
+    → Shows bad all' (Stand s to (n + 1) b w (finished acc p w j))
+stand_more s acc sum₁ bad all all' to p b j w n f k m F T S e h g c R = record {
+  clean = λ q B. R.clean (S.clean q (record { bytes = λ t x k l. B.bytes t x (omega arith) l })) (record { bytes = λ x l. get_or_mid s (to + n * b) k x (omega (arith, whole)) ∙ B.bytes n x (omega arith) (omega (arith, whole)) ∙ sym (same x (omega (arith, whole))) });
+  told = λ q. let r = R.told q in let z = S.told r.0 in (z.0, record { bytes = λ t x k l. row t x k l z.1 r.1 (dec_lt t n) });
 }
+  where
+    whole : length (mid_of (to + n * b) k s) ≡ k
+    whole = length_mid s (to + n * b) k (omega (arith, rows_room s acc to p b j w n f F h s refl))
+
+    same : (x : ℕ) → x < w → get_or (mid_of (f * w) m acc) x 0 ⊕ get_or sum₁ x 0 ≡ finished acc p w j n x
+    same x l = row_due acc sum₁ p w j n f m x T e (omega arith) l
+
+    row : (t x : ℕ) → t < n + 1 → x < w → Stand s to n b w (finished acc p w j) → RowStands (mid_of (to + n * b) k s) (mid_of (f * w) m acc) sum₁ (length (mid_of (to + n * b) k s)) → Dec (t < n)
+        → get_or s (to + t * b + x) 0 ≡ finished acc p w j t x
+    row t x i l B C (yes y) = B.bytes t x y l
+    row t x i l B C (no y) =
+        let z : t ≡ n = omega arith in rw z (sym (get_or_mid s (to + n * b) k x (omega arith)) ∙ C.bytes x (omega (arith, whole)) ∙ same x l)

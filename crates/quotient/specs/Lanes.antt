@@ -2,7 +2,6 @@
 -- Assumes nothing.
 use Rattle.std.specs.Prelude.{ℕ, ◌+◌, ◌-◌, ◌*◌, ◌%◌, ◌≤◌, ◌<◌, List, ◌≢◌, ◌≡◌, get_or, length}
 use Rattle.laws.specs.Part.{row_byte}
-use Rattle.laws.specs.Patch.{Patched}
 use Rattle.laws.specs.Sum.{sum}
 use Rattle.laws.specs.Xor.{◌⊕◌}
 use Rattle.algebra.specs.Prime.{Modulus}
@@ -13,19 +12,10 @@ finished acc p w j t x = row_byte acc w ((t + j) % p) x ⊕ sum p (λ q. row_byt
 
 -- ---- the rows of a quotient
 
--- the sum of n rows was added
-pub record Totalled (acc sum₀ sum₁ : List ℕ) (n w : ℕ) : Type 0 where
-  pub len : length sum₁ ≡ length sum₀
-  pub bytes : (x : ℕ) → x < w → get_or sum₁ x 0 ≡ get_or sum₀ x 0 ⊕ sum n (λ q. row_byte acc w q x)
-
-pub record TotalAsked (acc sum₀ : List ℕ) (p w : ℕ) : Type 0 where
-  pub lanes : w ≤ 128
-  pub room : p * w ≤ length acc
-  pub whole : length sum₀ ≡ 128
-
--- w bytes were put in s, those of acc with `sum₀` added
-pub record RowPut (s s' acc sum₀ : List ℕ) (at row w : ℕ) : Type 0 where
-  pub bytes : Patched s s' at w (λ x. get_or acc (row + x) 0 ⊕ get_or sum₀ x 0)
+-- the sum of n rows, w bytes of each
+pub record Summed (acc sum₁ : List ℕ) (n w : ℕ) : Type 0 where
+  pub whole : length sum₁ ≡ 128
+  pub bytes : (x : ℕ) → x < w → get_or sum₁ x 0 ≡ sum n (λ q. row_byte acc w q x)
 
 -- n rows of w bytes stand in s, b bytes from one to the next
 pub record Stand (s : List ℕ) (to n b w : ℕ) (v : ℕ → ℕ → ℕ) : Type 0 where
@@ -47,15 +37,11 @@ pub record FinishAsked (s acc : List ℕ) (to p b j w : ℕ) : Type 0 where
   pub inside : to + (p - 1) * b + w ≤ length s + b
   pub room : p * w ≤ length acc
 
--- the rows of acc with `sum₀` added to each
-unfoldable pub with_sum : List ℕ → List ℕ → ℕ → ℕ → ℕ → ℕ → ℕ → ℕ
-with_sum acc sum₀ p w j t x = row_byte acc w ((t + j) % p) x ⊕ get_or sum₀ x 0
-
 -- ---- comparing
 
--- w bytes stand in s, those of acc with `sum₀` added
-pub record RowStands (s acc sum₀ : List ℕ) (at row w : ℕ) : Type 0 where
-  pub bytes : (x : ℕ) → x < w → get_or s (at + x) 0 ≡ get_or acc (row + x) 0 ⊕ get_or sum₀ x 0
+-- the first n bytes of s are those of a row with `sum₁` added
+pub record RowStands (s row sum₁ : List ℕ) (n : ℕ) : Type 0 where
+  pub bytes : (x : ℕ) → x < n → get_or s x 0 ≡ get_or row x 0 ⊕ get_or sum₁ x 0
 
 -- r is 0 exactly where bad is 0 and R holds
 pub record Shows (bad r : ℕ) (R : Type 0) : Type 0 where

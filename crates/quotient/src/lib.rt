@@ -1,69 +1,33 @@
 // The quotient that walks found: the sum of all rows added to each, put in its place or compared with what stands there.
 #![tactic(auto)]
 
-ghost use Rattle.std.specs.Prelude.{◌≡◌, ◌+◌, ◌-◌, ◌≤◌, length, get_or};
+ghost use Rattle.std.specs.Prelude.{◌≡◌, ◌*◌, ◌-◌, ◌≤◌, length, get_or};
 ghost use Rattle.laws.specs.Xor.{◌⊕◌};
 ghost use Rattle.laws.specs.Patch.{Patched};
-ghost use Rattle.quotient.specs.Lanes.{finished, with_sum, Totalled, TotalAsked, RowPut, Stand, Laid, FinishAsked, RowStands, Shows};
+ghost use Rattle.quotient.specs.Lanes.{finished, Summed, Stand, Laid, FinishAsked, RowStands, Shows};
 
 use walk::LANES;
 
-// Adds w bytes of acc to the bytes of sum.
-fn add(sum: &mut [u8; LANES], acc: &[u8], row: usize, w: usize)
-    requires { (row + w ≤ length acc.now) × (w ≤ 128) × (length sum.old ≡ 128) }
-    ensures { Patched sum.old sum.new 0 w (λ x. get_or sum.old x 0 ⊕ get_or acc.now (row + x) 0) }
+// The sum of the p rows of acc, w bytes of each.
+fn total(acc: &[u8], p: usize, w: usize) -> [u8; LANES]
+    requires { (w ≤ 128) × (p * w ≤ length acc.now) }
+    ensures { Summed acc.now result p w }
 {
-    let mut x: usize = 0;
-    while x < w {
-        sum[x] = sum[x] ^ acc[row + x];
-        x += 1;
+    let mut sum = [0u8; LANES];
+    for t in 0..p {
+        let at = t * w;
+        engine::add(&mut sum[0..w], &acc[at..at + w]);
     }
+    sum
 }
 
-// Adds the p rows of acc to sum.
-fn total(sum: &mut [u8; LANES], acc: &[u8], p: usize, w: usize)
-    requires { TotalAsked acc.now sum.old p w }
-    ensures { Totalled acc.now sum.old sum.new p w }
+// Puts a row, with sum added, in s.
+fn put(s: &mut [u8], row: &[u8], sum: &[u8; LANES])
+    requires { (length row.now ≡ length s.old) × (length s.old ≤ 128) × (length sum.now ≡ 128) }
+    ensures { Patched s.old s.new 0 (length s.old) (λ x. get_or row.now x 0 ⊕ get_or sum.now x 0) }
 {
-    let mut t: usize = 0;
-    while t < p {
-        add(sum, acc, t * w, w);
-        t += 1;
-    }
-}
-
-// Puts w bytes of acc, with sum added, in s.
-fn put(s: &mut [u8], at: usize, acc: &[u8], row: usize, sum: &[u8; LANES], w: usize)
-    requires { (at + w ≤ length s.old) × (row + w ≤ length acc.now) × (w ≤ 128) × (length sum.now ≡ 128) }
-    ensures { RowPut s.old s.new acc.now sum.now at row w }
-{
-    let mut x: usize = 0;
-    while x < w {
-        s[at + x] = acc[row + x] ^ sum[x];
-        x += 1;
-    }
-}
-
-// Puts the rows of acc, from place j on and with sum added, in s.
-fn puts(
-    s: &mut [u8],
-    to: usize,
-    p: usize,
-    b: usize,
-    j: usize,
-    w: usize,
-    acc: &[u8],
-    sum: &[u8; LANES],
-)
-    requires { FinishAsked s.old acc.now to p b j w × (length sum.now ≡ 128) }
-    ensures { Laid s.old s.new to (p - 1) b w (with_sum acc.now sum.now p w j) }
-{
-    let mut f = j;
-    let mut t: usize = 0;
-    while t < p - 1 {
-        put(s, to + t * b, acc, f * w, sum, w);
-        f = walk::next(f, p - 1, p);
-        t += 1;
+    for (x, o) in s.iter_mut().enumerate() {
+        *o = row[x] ^ sum[x];
     }
 }
 
@@ -72,47 +36,23 @@ pub fn finish(s: &mut [u8], to: usize, p: usize, b: usize, j: usize, w: usize, a
     requires { FinishAsked s.old acc.now to p b j w }
     ensures { Laid s.old s.new to (p - 1) b w (finished acc.now p w j) }
 {
-    let mut sum = [0u8; LANES];
-    total(&mut sum, acc, p, w);
-    puts(s, to, p, b, j, w, acc, &sum);
-}
-
-// 0 where bad is 0 and w bytes of s are those of acc with sum added.
-fn differ(bad: u8, s: &[u8], at: usize, acc: &[u8], row: usize, sum: &[u8; LANES], w: usize) -> u8
-    requires { (at + w ≤ length s.now) × (row + w ≤ length acc.now) × (w ≤ 128) × (length sum.now ≡ 128) }
-    ensures { Shows bad result (RowStands s.now acc.now sum.now at row w) }
-{
-    let mut all = bad;
-    let mut x: usize = 0;
-    while x < w {
-        all = all | (s[at + x] ^ (acc[row + x] ^ sum[x]));
-        x += 1;
-    }
-    all
-}
-
-// 0 where bad is 0 and the rows stand in s.
-fn differs(
-    bad: u8,
-    s: &[u8],
-    to: usize,
-    p: usize,
-    b: usize,
-    j: usize,
-    w: usize,
-    acc: &[u8],
-    sum: &[u8; LANES],
-) -> u8
-    requires { FinishAsked s.now acc.now to p b j w × (length sum.now ≡ 128) }
-    ensures { Shows bad result (Stand s.now to (p - 1) b w (with_sum acc.now sum.now p w j)) }
-{
-    let mut all = bad;
+    let sum = total(acc, p, w);
     let mut f = j;
-    let mut t: usize = 0;
-    while t < p - 1 {
-        all = differ(all, s, to + t * b, acc, f * w, sum, w);
+    for t in 0..p - 1 {
+        let (at, row) = (to + t * b, f * w);
+        put(&mut s[at..at + w], &acc[row..row + w], &sum);
         f = walk::next(f, p - 1, p);
-        t += 1;
+    }
+}
+
+// 0 where bad is 0 and s is the row with sum added.
+fn differ(bad: u8, s: &[u8], row: &[u8], sum: &[u8; LANES]) -> u8
+    requires { (length row.now ≡ length s.now) × (length s.now ≤ 128) × (length sum.now ≡ 128) }
+    ensures { Shows bad result (RowStands s.now row.now sum.now (length s.now)) }
+{
+    let mut all = bad;
+    for (x, o) in s.iter().enumerate() {
+        all |= *o ^ (row[x] ^ sum[x]);
     }
     all
 }
@@ -131,7 +71,13 @@ pub fn compare(
     requires { FinishAsked s.now acc.now to p b j w }
     ensures { Shows bad result (Stand s.now to (p - 1) b w (finished acc.now p w j)) }
 {
-    let mut sum = [0u8; LANES];
-    total(&mut sum, acc, p, w);
-    differs(bad, s, to, p, b, j, w, acc, &sum)
+    let sum = total(acc, p, w);
+    let mut all = bad;
+    let mut f = j;
+    for t in 0..p - 1 {
+        let (at, row) = (to + t * b, f * w);
+        all = differ(all, &s[at..at + w], &acc[row..row + w], &sum);
+        f = walk::next(f, p - 1, p);
+    }
+    all
 }

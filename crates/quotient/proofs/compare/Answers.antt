@@ -1,14 +1,12 @@
 -- `quotient::compare` meets its contract.
 -- Assumes nothing.
-use borrow.Author.Rules.{rules}
-use Rattle.quotient.proofs.Quotients.{total_asked, sum_whole, stand_finished}
+use native.Mathlib.Omega.{arith}
+use Rattle.quotient.proofs.Quotients.{shift_next, stand_more}
 use Rattle.quotient.proofs.compare.Goals as goal
 
-pub total-requires : goal.total-requires
-total-requires c = search total_asked
-
-pub differs-requires : goal.differs-requires
-differs-requires c = (search rules, search sum_whole)
-
-pub returns : goal.returns
-returns c = search stand_finished
+pub loop-t-preserved : goal.loop-t-preserved
+loop-t-preserved c =
+    let i = c.loop-t.invariant in (
+      shift_next _ _ _ _ _ c.next-f.ensures i.0 c.loop-t-test.true,
+      stand_more _ _ _ _ _ _ _ _ _ _ _ _ _ _ _ c.requires c.total-sum.ensures i.1 i.0 c.loop-t-test.true (omega arith) (omega arith) c.differ-all.ensures,
+    )

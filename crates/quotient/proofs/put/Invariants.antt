@@ -1,13 +1,9 @@
 -- `quotient::put` meets its contract.
 -- Assumes nothing.
-use Prim.Native.Nat.{◌-◌, ◌≤◌}
-use mathlib.Core.Path.{◌≡◌}
-use lib.ListN.{length}
-use Rattle.quotient.specs.Lanes.{RowPut}
+use lib.ListN.{get_or}
+use Rattle.laws.specs.Patch.{Patched}
+use Rattle.laws.specs.Xor.{◌⊕◌}
 use Rattle.quotient.proofs.put.Given as goal
 
 abbrev pub invariant-loop-x : goal.invariant-loop-x
-invariant-loop-x l = (l.x ≤ l.w) × (length l.s ≡ length l.initial.s) × RowPut l.initial.s l.s l.acc l.sum l.at l.row l.x
-
-abbrev pub decreases-loop-x : goal.decreases-loop-x
-decreases-loop-x l = l.w - l.x
+invariant-loop-x l = Patched l.initial.s l.s 0 l.x (λ o. get_or l.row o 0 ⊕ get_or l.sum o 0)
