@@ -31,12 +31,12 @@ use Rattle.block.specs.Parity.{due}
 p_is : (q : Params) → Admitted q → q.p ≡ suc (rows q)
 p_is q a = omega (arith, a.p_low)
 
-module _ (s acc : List ℕ) (q : Params) (j l w da : ℕ) (A : BlockAsked s acc q j l w) (e : da ≡ data_at q 0) where
-  same_symbols : (i y : ℕ) → symbols s (da + l + i * (rows q * q.b)) q.b y ≡ (λ u. data_byte s q i u (l + y))
+module _ (s acc : List ℕ) (q : Params) (j l w : ℕ) (A : BlockAsked s acc q j l w) where
+  same_symbols : (i y : ℕ) → symbols s (data_at q 0 + l + i * (rows q * q.b)) q.b y ≡ (λ u. data_byte s q i u (l + y))
   unfolding symbols
-  same_symbols i y = fun_ext (λ u. let z : da + l + i * (rows q * q.b) + u * q.b + y ≡ strip_at q i u + (l + y) = omega arith in ap (λ (o : ℕ). get_or s o 0) z)
+  same_symbols i y = fun_ext (λ u. let z : data_at q 0 + l + i * (rows q * q.b) + u * q.b + y ≡ strip_at q i u + (l + y) = omega arith in ap (λ (o : ℕ). get_or s o 0) z)
 
-  finished_due : (acc' : List ℕ) → Sums s acc' (da + l) q.p q.b (q.r - j) w q.k → (u y : ℕ) → y < w → finished acc' q.p w j u y ≡ due q (data_byte s q) j u (l + y)
+  finished_due : (acc' : List ℕ) → Sums s acc' (data_at q 0 + l) q.p q.b (q.r - j) w q.k → (u y : ℕ) → y < w → finished acc' q.p w j u y ≡ due q (data_byte s q) j u (l + y)
   unfolding finished sum_found found due
   finished_due acc' S u y h =
       let n : ℕ = rows q in
@@ -44,7 +44,7 @@ module _ (s acc : List ℕ) (q : Params) (j l w da : ℕ) (A : BlockAsked s acc 
       let g : ℕ → ℕ = λ v. row_byte acc' w v y in
       ap (λ (p : ℕ). g ((u + j) % p) ⊕ sum p g) z
       ∙ walks_parity n (subst (λ (p : ℕ). T (odd_prime p)) z A.image.admitted.prime) q.r j q.k A.column (omega (arith, A.image.admitted.fits))
-      (λ i. symbols s (da + l + i * (n * q.b)) q.b y) g (λ v k. S.bytes v y (omega arith) h) u
+      (λ i. symbols s (data_at q 0 + l + i * (n * q.b)) q.b y) g (λ v k. S.bytes v y (omega arith) h) u
       ∙ sum_all q.k (λ i. ap (λ (f : ℕ → ℕ). over n j (q.r + i) (lane n f) u) (same_symbols i y))
 
 modulus_is : (q : Params) → Admitted q → Modulus q.p
@@ -83,15 +83,16 @@ module _ (s acc₀ : List ℕ) (q : Params) (j l w da : ℕ) (A : BlockAsked s a
     begun = S;
   }
 
+module _ (s acc₀ : List ℕ) (q : Params) (j l w : ℕ) (A : BlockAsked s acc₀ q j l w) where
   module _ (pa : ℕ) (f : pa ≡ parity_at q j) where
     -- lane x of row u, by the place in the block
     lane_at : (t : List ℕ) (u x : ℕ) → l ≤ x → parity_byte t q j u x ≡ get_or t (pa + l + u * q.b + (x - l)) 0
     lane_at t u x h = let z : parity_strip_at q j u + x ≡ pa + l + u * q.b + (x - l) = omega arith in ap (λ (o : ℕ). get_or t o 0) z
 
-    lane_due : (acc : List ℕ) → Sums s acc (da + l) q.p q.b (q.r - j) w q.k → (u x : ℕ) → l ≤ x → x < l + w → finished acc q.p w j u (x - l) ≡ due q (data_byte s q) j u x
+    lane_due : (acc : List ℕ) → Sums s acc (data_at q 0 + l) q.p q.b (q.r - j) w q.k → (u x : ℕ) → l ≤ x → x < l + w → finished acc q.p w j u (x - l) ≡ due q (data_byte s q) j u x
     lane_due acc S u x h k =
         let z : l + (x - l) ≡ x = omega arith in
-        finished_due s acc₀ q j l w da A e acc S u (x - l) (omega arith) ∙ ap (due q (data_byte s q) j u) z
+        finished_due s acc₀ q j l w A acc S u (x - l) (omega arith) ∙ ap (due q (data_byte s q) j u) z
 
     -- a byte of the block lies in lane and row, and in no other
     other_byte : (i u x : ℕ) → u < rows q → x < q.b → (i ≡ j → l ≤ x → x < l + w → ⊥) → (t y : ℕ) → t < rows q → y < w → parity_strip_at q i u + x ≢ pa + l + t * q.b + y
@@ -111,7 +112,7 @@ module _ (s acc₀ : List ℕ) (q : Params) (j l w da : ℕ) (A : BlockAsked s a
         apart z (inl a) = omega (arith, A.within)
         apart z (inr a) = omega (arith, A.within)
 
-    pub block_filled : (acc t : List ℕ) → Sums s acc (da + l) q.p q.b (q.r - j) w q.k → Laid s t (pa + l) (q.p - 1) q.b w (finished acc q.p w j)
+    pub block_filled : (acc t : List ℕ) → Sums s acc (data_at q 0 + l) q.p q.b (q.r - j) w q.k → Laid s t (pa + l) (q.p - 1) q.b w (finished acc q.p w j)
         → BlockFilled s t q j l (l + w)
     block_filled acc t S L = record {
       len = L.len;
@@ -120,7 +121,7 @@ module _ (s acc₀ : List ℕ) (q : Params) (j l w da : ℕ) (A : BlockAsked s a
       rest = λ i u x h k out. L.rest (parity_strip_at q i u + x) (other_byte i u x h k out);
     }
 
-    pub block_shown : (acc : List ℕ) (bad r : ℕ) → Sums s acc (da + l) q.p q.b (q.r - j) w q.k
+    pub block_shown : (acc : List ℕ) (bad r : ℕ) → Sums s acc (data_at q 0 + l) q.p q.b (q.r - j) w q.k
         → Shows bad r (Stand s (pa + l) (q.p - 1) q.b w (finished acc q.p w j)) → Shows bad r (LanesRight s q j l (l + w))
     block_shown acc bad r S C = record {
       clean = λ h R. C.clean h (record { bytes = λ u y k m. byte u y (R.bytes u (l + y) k (omega arith) (omega arith) (omega (arith, A.within))) m });
@@ -130,7 +131,7 @@ module _ (s acc₀ : List ℕ) (q : Params) (j l w da : ℕ) (A : BlockAsked s a
         byte : (u y : ℕ) → parity_byte s q j u (l + y) ≡ due q (data_byte s q) j u (l + y) → y < w → get_or s (pa + l + u * q.b + y) 0 ≡ finished acc q.p w j u y
         byte u y d m =
             let z : pa + l + u * q.b + y ≡ parity_strip_at q j u + (l + y) = omega arith in
-            ap (λ (o : ℕ). get_or s o 0) z ∙ d ∙ sym (finished_due s acc₀ q j l w da A e acc S u y m)
+            ap (λ (o : ℕ). get_or s o 0) z ∙ d ∙ sym (finished_due s acc₀ q j l w A acc S u y m)
 
 -- a quotient's rows are put, or compared, from any place that is no higher than j
 pub finish_asked : (s acc₀ acc : List ℕ) (q : Params) (j l w pa z : ℕ) → BlockAsked s acc₀ q j l w → z ≤ j → pa ≡ parity_at q j → q.p * w ≤ length acc
