@@ -8,6 +8,7 @@ use lib.ListN.{length, get_or, take, drop, length-append, get_or-append, take-ap
 use lib.Seq.{take-append_seam, drop-append_seam, get_or-append-add, drop-drop}
 use borrow.Rule.Slice.PartMut.{put_mid}
 use Rattle.std.specs.Int.{w16, w32, to_le_bytes}
+use Rattle.laws.proofs.Mid.{mid_put}
 use Rattle.laws.proofs.Part.{length_part, length_put, is_put, get_or_put_before, get_or_put_in, get_or_put_after}
 use Rattle.laws.proofs.Place.{Place, place, before, inside, after}
 use Rattle.laws.proofs.Tab.{length_tab, get_or_tab}
@@ -90,12 +91,6 @@ pub length_opening : (c : ℕ) (q : Params) (n : ℕ) → length (opening c q n)
 length_opening c q n = simp (length-append, length_tab)
 
 -- bytes that code copied to a place are put there
-mid_put : (s u : List ℕ) (at n : ℕ) → length u ≡ n → put_mid at (at + n - at) s u ≡ put s at u
-unfolding put
-mid_put s u at n e =
-    let z : at + (at + n - at) ≡ at + length u = omega arith in
-    ap (λ (l : List ℕ). take at s ++ (u ++ l)) (drop-drop (at + n - at) at s ∙ ap (λ (k : ℕ). drop k s) z)
-
 two_bytes : (v : ℕ) → to_le_bytes w16 v ≡ tab 2 (byte v)
 unfolding tab
 two_bytes v = let z : v % 256 ≡ v / 1 % 256 = omega arith in ap (λ (b : ℕ). b ∷ v / 256 % 256 ∷ []) z
@@ -107,14 +102,14 @@ four_bytes v = let z : v % 256 ≡ v / 1 % 256 = omega arith in ap (λ (b : ℕ)
 pub number_put : (s u : List ℕ) (at v : ℕ) → at + 2 ≤ length s → u ≡ to_le_bytes w16 v → PutIn s (put_mid at (at + 2 - at) s u) at (sixteen v)
 number_put s u at v h e =
     let z = e ∙ two_bytes v in
-    let p = mid_put s u at 2 (ap length z ∙ length_sixteen v) ∙ ap (put s at) z in
+    let p = mid_put s at (at + 2 - at) u (ap length z ∙ length_sixteen v ∙ omega arith) ∙ ap (put s at) z in
     record { len = ap length p ∙ length_put s at (sixteen v) (omega (arith, length_sixteen v)); bytes = p }
 
 pub word_put : (s u : List ℕ) (at v : ℕ) → u ≡ to_le_bytes w32 v → put_mid at (at + 4 - at) s u ≡ put32 s at v
 unfolding put32 patch
 word_put s u at v e =
     let z = e ∙ four_bytes v in
-    mid_put s u at 4 (ap length z ∙ length_tab 4 (byte v)) ∙ ap (put s at) z
+    mid_put s at (at + 4 - at) u (ap length z ∙ length_tab 4 (byte v) ∙ omega arith) ∙ ap (put s at) z
 
 pub three_put : (s t1 t2 t3 : List ℕ) (at a b c : ℕ) → PutIn t2 t3 (at + 4) (sixteen c) → PutIn t1 t2 (at + 2) (sixteen b) → PutIn s t1 at (sixteen a)
     → at + 6 ≤ length s → PutIn s t3 at (three a b c)
