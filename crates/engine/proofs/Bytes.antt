@@ -2,13 +2,14 @@
 -- Assumes nothing.
 use Prim.Native.Nat.{ℕ, ◌+◌, ◌<◌, ◌≤◌}
 use mathlib.Core.List.{List}
-use mathlib.Core.Path.{◌≡◌, refl, sym, ap, subst}
+use mathlib.Core.Path.{◌∙◌, ◌≡◌, refl, sym, ap, subst}
 use native.Mathlib.Omega.{arith}
 use lib.Bits.{bit_xor}
 use lib.ListN.{length, get_or, set}
 use borrow.Rule.Slice.PartMut.{mid_of, put_mid}
-use Rattle.laws.proofs.Mid.{length_mid, mid_put, mid_patched}
-use Rattle.laws.proofs.Patch.{patch_front, patch_end, is_patch}
+use Rattle.laws.proofs.Mid.{get_or_mid, length_mid, mid_filled, mid_patched}
+use Rattle.laws.proofs.Part.{is_put}
+use Rattle.laws.proofs.Patch.{patch_front, patch_end, patch_join, is_patch}
 use Rattle.laws.specs.Part.{put, tab}
 use Rattle.laws.specs.Patch.{Patched, patch}
 use Rattle.laws.specs.Xor.{◌⊕◌}
@@ -26,5 +27,16 @@ clear_is s v at k n i h e d f g =
     is_patch s (put_mid at k s v) at n (λ o. 0) h
     (subst (λ (m : ℕ). Patched s (put_mid at k s v) at m (λ o. 0)) e (mid_patched s at k v (λ o. 0) (λ o. 0) (omega arith) (patch_end (mid_of at k s) v 0 i k (λ o. 0) d (omega arith) (omega arith)) (λ i m. refl)))
 
-pub copy_is : (s v src : List ℕ) (at k : ℕ) → v ≡ src → k ≡ length src → put_mid at k s v ≡ put s at src
-copy_is s v src at k e f = rw e (mid_put s at k src (sym f))
+-- what came before, and the bytes after it
+pub copy_more : (s t v src : List ℕ) (at i k n j : ℕ) → j ≡ i + n → at + length src ≤ length s → i + n ≤ length src → k ≡ n → v ≡ mid_of i n src → Patched s t at i (λ o. get_or src o 0)
+    → Patched s (put_mid (at + i) k t v) at j (λ o. get_or src o 0)
+copy_more s t v src at i k n j z h g e c d =
+    let l : length (mid_of i n src) ≡ n = length_mid src i n g in
+    let P : Patched t (put_mid (at + i) k t v) (at + i) k (λ o. get_or src (i + o) 0) =
+    mid_filled t (at + i) k v (λ o. get_or src (i + o) 0) (omega (arith, d.len)) (rw c (l ∙ sym e)) (λ o m. rw c (get_or_mid src i n o (omega arith))) in
+    subst (λ (m : ℕ). Patched s (put_mid (at + i) k t v) at m (λ o. get_or src o 0)) (sym z)
+    (patch_join s t (put_mid (at + i) k t v) at i n (λ o. get_or src o 0) (λ o. get_or src (i + o) 0) d
+    (subst (λ (m : ℕ). Patched t (put_mid (at + i) k t v) (at + i) m (λ o. get_or src (i + o) 0)) e P) (λ o m. refl))
+
+pub copy_end : (s u src : List ℕ) (at i : ℕ) → at + length src ≤ length s → i ≡ length src → Patched s u at i (λ o. get_or src o 0) → u ≡ put s at src
+copy_end s u src at i h e d = is_put u s at src h d.len d.below (λ o k. d.inner o (omega arith)) (λ o k. d.above o (omega arith))

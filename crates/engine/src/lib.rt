@@ -183,9 +183,18 @@ pub fn clear(s: &mut [u8], from: usize, n: usize)
 }
 
 // Puts the bytes of src in their place.
+// Stays: by the block, through an array; one copy_from_slice of src takes make at p17 k10 r4 B512 from 166,021 instructions to 234,843.
 pub fn copy_in(s: &mut [u8], at: usize, src: &[u8])
     requires { at + length src.now ≤ length s.old }
     ensures { s.new ≡ put s.old at src.now }
 {
-    s[at..at + src.len()].copy_from_slice(src);
+    let blocks = src.len() / WIDE;
+    for i in 0..blocks {
+        let from = i * WIDE;
+        let mut block = [0u8; WIDE];
+        block.copy_from_slice(&src[from..from + WIDE]);
+        s[at + from..at + from + WIDE].copy_from_slice(&block);
+    }
+    let from = blocks * WIDE;
+    s[at + from..at + src.len()].copy_from_slice(&src[from..]);
 }

@@ -1,8 +1,17 @@
 -- `engine::copy_in` meets its contract.
 -- Assumes nothing.
+use mathlib.Core.Path.{◌∙◌, refl}
 use native.Mathlib.Omega.{arith}
-use Rattle.engine.proofs.Bytes.{copy_is}
+use Rattle.laws.proofs.Patch.{patch_end}
+use Rattle.engine.proofs.Bytes.{copy_more, copy_end}
 use Rattle.engine.proofs.copy_in.Goals as goal
 
+pub loop-i-preserved : goal.loop-i-preserved
+loop-i-preserved c =
+    copy_more _ _ _ _ _ _ _ _ _ (omega arith) c.requires (omega (arith, c.loop-i-test.true)) (omega arith)
+    (c.copy_from_slice-in-loop-i.ensures.after ∙ c.copy_from_slice.ensures.after) c.loop-i.invariant
+
 pub returns : goal.returns
-returns c = copy_is _ _ _ _ _ c.copy_from_slice.ensures.after (omega arith)
+returns c =
+    copy_end _ _ _ _ _ c.requires refl
+    (copy_more _ _ _ _ _ _ _ _ _ (omega arith) c.requires (omega arith) (omega arith) c.copy_from_slice-2.ensures.after (patch_end _ _ _ _ _ _ c.loop-i.invariant (omega (arith, c.loop-i.auto.i-end)) (omega (arith, c.loop-i-test.false))))
