@@ -4,7 +4,7 @@
 ghost use Rattle.std.specs.Prelude.{◌≡◌, Some};
 ghost use Rattle.answers.specs.List.{list_of};
 ghost use Rattle.answers.specs.Line.{named, line_of};
-ghost use Rattle.answers.specs.declared.Answer.TheVariants.{Aged, Refused};
+ghost use Rattle.answers.specs.declared.Answer.TheVariants.{Refused};
 
 use refusal::Refusal;
 use revision::Age;
@@ -108,14 +108,5 @@ impl From<Refusal> for Answer {
 
     fn from(e: Refusal) -> Answer {
         Answer::Refused(e)
-    }
-}
-
-// Where a base is not current, its age is the answer.
-impl From<Age> for Answer {
-    ghost from_gives = { λ age answer. answer ≡ Aged age };
-
-    fn from(age: Age) -> Answer {
-        Answer::Aged(age)
     }
 }
