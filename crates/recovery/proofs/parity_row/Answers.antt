@@ -1,5 +1,7 @@
 -- `recovery::parity_row` meets its contract.
 -- Assumes nothing.
+use mathlib.Core.Path.{◌≡◌}
+use lib.ListN.{length, replicate}
 use borrow.Author.Rules.{rules}
 use Rattle.recovery.proofs.Solving.{lost_direct, inverses_system, composed_solved}
 use Rattle.recovery.proofs.parity_row.Goals as goal
@@ -11,4 +13,4 @@ pub solve-requires : goal.solve-requires
 solve-requires c = (search rules, search (rules, inverses_system))
 
 pub returns : goal.returns
-returns c = composed_solved _ _ _ _ _ _ _ _ c.requires.0 c.requires.1 c.requires.2 (search rules) c.add_inverses.ensures c.solve.ensures
+returns c = let z : c.fill.new.self ≡ replicate (length c.args.out.now) 0 = search rules in search composed_solved
