@@ -61,7 +61,7 @@ pub fn one_in(c: usize, what: usize, n: usize) -> usize {
 
 // The prime of a case, each in turn.
 pub fn prime_of(c: usize) -> usize {
-    PRIMES[c % 17]
+    PRIMES[c % PRIMES.len()]
 }
 
 // A shape with a few columns, the primes in turn.
@@ -107,12 +107,12 @@ fn widest_shape(c: usize, slip: Option<Slip>) -> Shape {
 
 // A shape for each strip length in turn.
 fn strip_shape(c: usize, slip: Option<Slip>) -> Shape {
-    let (p, k) = match c / 16 {
+    let (p, k) = match c / STRIPS.len() {
         0 => (5, 2),
         1 => (17, 3),
         _ => (61, 1),
     };
-    let (r, b) = (2, STRIPS[c % 16]);
+    let (r, b) = (2, STRIPS[c % STRIPS.len()]);
     Shape { p, k, r, b, slip }
 }
 
@@ -214,7 +214,7 @@ pub fn pattern_of(n: usize, c: usize, size: usize) -> u64 {
 fn size_of(group: Group, q: Shape, c: usize) -> usize {
     let sizes = q.r.wrapping_add(2);
     match group {
-        Group::Lost | Group::Away => (c / 17).checked_rem(sizes).unwrap_or(0),
+        Group::Lost | Group::Away => (c / PRIMES.len()).checked_rem(sizes).unwrap_or(0),
         Group::Wide => (c / 3).checked_rem(sizes).unwrap_or(0),
         Group::Widest => q.r.wrapping_sub(c / 4),
         _ => 0,
