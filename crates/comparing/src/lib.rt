@@ -44,6 +44,7 @@ impl Numbers for Params {
 // An answer in numbers: that of its refusal or 0, and those beside it.
 #[derive(Clone, Copy, PartialEq, Eq, Debug)]
 pub struct Answer {
+    // Stays: a number, since the two implementations share no enum of refusals, and the documents' numbers are what both give.
     pub refusal: u64,
     pub beside: [u64; 4],
 }
