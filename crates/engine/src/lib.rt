@@ -199,5 +199,7 @@ pub fn copy_in(s: &mut [u8], at: usize, src: &[u8])
         s[at + from..at + from + WIDE].copy_from_slice(&block);
     }
     let from = blocks * WIDE;
-    s[at + from..at + src.len()].copy_from_slice(&src[from..]);
+    if from < src.len() {
+        s[at + from..at + src.len()].copy_from_slice(&src[from..]);
+    }
 }
