@@ -21,7 +21,7 @@ use Rattle.laws.specs.Part.{put, tab}
 use Rattle.laws.specs.Patch.{Patched, patch}
 use Rattle.laws.specs.Xor.{◌⊕◌}
 use Rattle.stripe.proofs.Places.{parity_strip_from, strip_in}
-use Rattle.stripe.specs.Layout.{column_length, parity_strip_at, rows, strip_at}
+use Rattle.stripe.specs.Layout.{column_length, image_length, parity_strip_at, rows, strip_at}
 use Rattle.stripe.specs.Params.{Admitted}
 use Rattle.stripe.specs.Reading.{Image}
 use Rattle.engine.specs.Strips.{Columns, onto, taken}
@@ -33,7 +33,7 @@ use Rattle.rebuild.proofs.Words.{words_right}
 use Rattle.rebuild.specs.Agrees.{AgreesOutside}
 use Rattle.rebuild.specs.Answer.{column_strip_at}
 use Rattle.pattern.specs.Pattern.{few_lost, is_lost}
-use Rattle.rebuild.specs.Inner.{ColumnFilled, Prepared, StripAsked, StripLost, StripPlace}
+use Rattle.rebuild.specs.Inner.{ColumnFilled, Prepared, StripLost, StripPlace}
 use Rattle.rebuild.specs.Lost.{rebuilt, whole_byte}
 use Rattle.recovery.specs.Inner.{LostColumn}
 use Rattle.recovery.specs.Words.{column_words, places}
@@ -91,16 +91,16 @@ module _ (s : List ℕ) (q : Params) (m n t : ℕ) (out : List ℕ) (L : StripLo
 
 -- ---- one strip put in its place
 
-module _ (s : List ℕ) (q : Params) (n t : ℕ) (ats ws out : List ℕ) (S : StripAsked s q n t ats ws out) (u : List ℕ)
+module _ (s : List ℕ) (q : Params) (n t : ℕ) (ats ws out : List ℕ) (r : length out ≡ q.b) (l : length s ≡ image_length q) (u : List ℕ)
     (e : u ≡ tab (length out) (taken q.p s (length out) t ats ws)) (x : ℕ) (P : StripPlace q n t x) where
   strip_is : u ≡ tab q.b (taken q.p s q.b t ats ws)
-  strip_is = e ∙ ap (λ (b : ℕ). tab b (taken q.p s b t ats ws)) S.room
+  strip_is = e ∙ ap (λ (b : ℕ). tab b (taken q.p s b t ats ws)) r
 
-  pub strip_put : (v : List ℕ) → v ≡ put s x u → Patched s v (column_strip_at q n t) q.b (taken q.p s q.b t ats ws)
+  strip_put : (v : List ℕ) → v ≡ put s x u → Patched s v (column_strip_at q n t) q.b (taken q.p s q.b t ats ws)
   unfolding patch
   strip_put v f =
       subst (λ (a : ℕ). Patched s v a q.b (taken q.p s q.b t ats ws)) P.is
-      (patched s v x q.b (taken q.p s q.b t ats ws) (omega (arith, P.inside, S.len)) (f ∙ ap (put s x) strip_is))
+      (patched s v x q.b (taken q.p s q.b t ats ws) (omega (arith, P.inside)) (f ∙ ap (put s x) strip_is))
 
 -- ---- one column
 
@@ -122,16 +122,11 @@ module _ (s : List ℕ) (q : Params) (m n : ℕ) (h : n < q.k + q.r) where
     image : Image t q
     image = agrees_image s t q m D.agrees P.image
 
-    pub column_asked : (o : List ℕ) → length o ≡ length out → StripAsked t q n v ats ws o
-    column_asked o e = record {
-      there = record { admitted = P.image.admitted; column = h; row = l };
-      len = image.len;
-      room = e ∙ P.room;
-      columns = rw (P.ats_are, W) (places_columns t o q m n v image few l (e ∙ P.room));
-    }
+    pub column_asked : (o : List ℕ) → length o ≡ length out → Columns q.p v t ats ws o
+    column_asked o e = rw (P.ats_are, W) (places_columns t o q m n v image few l (e ∙ P.room))
 
-    pub column_more : (t' : List ℕ) → is_lost m n ≡ true → Patched t t' (column_strip_at q n v) q.b (taken q.p t q.b v ats ws) → ColumnFilled s t' q m n (v + 1)
-    column_more t' a d = record {
+    column_step : (t' : List ℕ) → is_lost m n ≡ true → Patched t t' (column_strip_at q n v) q.b (taken q.p t q.b v ats ws) → ColumnFilled s t' q m n (v + 1)
+    column_step t' a d = record {
       agrees = agrees_filled s t t' q m _ D.agrees n v h l a d;
       below = λ o k. d.below o (omega (arith, column_start q n v)) ∙ D.below o k;
       done = λ b u x k i. go u x i (dec_lt u v) k;
@@ -145,6 +140,11 @@ module _ (s : List ℕ) (q : Params) (m n : ℕ) (h : n < q.k + q.r) where
             ∙ ap₂ (λ (c y : List ℕ). taken q.p t q.b v c y x) P.ats_are W
             ∙ words_right t q m P.image.admitted few n v x a
             ∙ sym (whole_byte_agrees s t q m D.agrees x i n v h l))
+
+    -- from a strip o, c was worked out and put at x
+    pub column_more : is_lost m n ≡ true → (o c t' : List ℕ) (x : ℕ) → length o ≡ length out → c ≡ tab (length o) (taken q.p t (length o) v ats ws) → StripPlace q n v x → t' ≡ put t x c
+        → ColumnFilled s t' q m n (v + 1)
+    column_more a o c t' x e f y g = column_step t' a (strip_put t q n v ats ws o (e ∙ P.room) image.len c f x y t' g)
 
 -- ---- all columns
 

@@ -3,8 +3,7 @@
 use Rattle.std.specs.Prelude.{◌+◌, ◌<◌, ◌≤◌, ℕ, true, List, ◌≡◌, T, get_or, length}
 use Rattle.stripe.specs.Layout.{image_length, rows}
 use Rattle.stripe.specs.Reading.{Image}
-use Rattle.engine.specs.Strips.{Columns}
-use Rattle.pattern.specs.Inner.{Cell, Repairable}
+use Rattle.pattern.specs.Inner.{Repairable}
 use Rattle.stripe.specs.declared.Params.{Params}
 use Rattle.rebuild.specs.Agrees.{AgreesOutside}
 use Rattle.rebuild.specs.Answer.{column_strip_at}
@@ -26,13 +25,6 @@ pub record StripLost (s : List ℕ) (q : Params) (m n t : ℕ) (out : List ℕ) 
   pub away : is_lost m n ≡ true
   pub row : t < rows q
   pub room : length out ≡ q.b
-
--- strip t of column n, what it is taken from, and room for it
-pub record StripAsked (s : List ℕ) (q : Params) (n t : ℕ) (ats words out : List ℕ) : Type 0 where
-  pub there : Cell q n t
-  pub len : length s ≡ image_length q
-  pub room : length out ≡ q.b
-  pub columns : Columns q.p t s ats words out
 
 -- an accepted image, the places of the pattern, and room for a strip
 pub record Prepared (s : List ℕ) (q : Params) (m : ℕ) (ats out : List ℕ) : Type 0 where
