@@ -54,11 +54,6 @@ pub fn seldom(c: usize, what: usize, n: usize) -> bool {
     below(c, what, n) == 0
 }
 
-// 1 in one of n cases, for a purpose, else 0.
-pub fn one_in(c: usize, what: usize, n: usize) -> usize {
-    usize::from(seldom(c, what, n))
-}
-
 // The prime of a case, each in turn.
 pub fn prime_of(c: usize) -> usize {
     PRIMES[c % PRIMES.len()]
@@ -183,10 +178,10 @@ fn base_of(q: Shape, c: usize, w: usize, column: usize) -> u32 {
 
 // Write w of a case, of the first ones of some bytes: mostly sound.
 pub fn note_of(q: Shape, c: usize, w: usize, bytes: &[u8]) -> Note<'_> {
-    let none = one_in(c, w.wrapping_add(320), 12);
+    let none = usize::from(seldom(c, w.wrapping_add(320), 12));
     let column = below(c, w.wrapping_add(240), q.k.wrapping_add(none));
-    let wide = one_in(c, w.wrapping_add(260), 12);
-    let low = one_in(c, w.wrapping_add(280), 12);
+    let wide = usize::from(seldom(c, w.wrapping_add(260), 12));
+    let low = usize::from(seldom(c, w.wrapping_add(280), 12));
     Note {
         column,
         row: below(c, w.wrapping_add(300), q.rows().wrapping_add(low)),
@@ -274,7 +269,7 @@ pub fn shape_of(group: Group, c: usize, slip: Option<Slip>) -> Shape {
 pub fn length_of(group: Group, q: Shape, c: usize) -> usize {
     let n = q.length();
     if group == Group::Unmade {
-        n.wrapping_add(one_in(c, 90, 3)).min(4000)
+        n.wrapping_add(usize::from(seldom(c, 90, 3))).min(4000)
     } else {
         n
     }

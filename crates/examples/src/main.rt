@@ -37,7 +37,7 @@ fn run_groups(rt: &impl Print, pair: &mut Pair) -> io::Result<()> {
     let mut t = Tally::new();
     for (group, cases) in GROUPS {
         trials::run(group, cases, None, &mut t, pair);
-        tell(rt, telling::name_of(group), &t)?;
+        telling::say_group(rt, group, &t)?;
     }
     telling::tell_refusals(rt, &t)
 }

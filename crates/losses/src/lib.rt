@@ -2,15 +2,15 @@
 #![tactic(auto)]
 
 use comparing::{Pair, Tally};
-use drawing::{below, one_in, seldom, spoil_lost};
+use drawing::{below, seldom, spoil_lost};
 use second_ground::Shape;
 use second_lost::Asked;
 use total::{bit, ones, part};
 
 // Restore and show of a drawn strip, mostly sound.
 pub fn try_strip(t: &mut Tally, q: Shape, c: usize, lost: u64, pair: &mut Pair) {
-    let columns = q.columns().wrapping_add(one_in(c, 50, 8));
-    let rows = q.rows().wrapping_add(one_in(c, 51, 8));
+    let columns = q.columns().wrapping_add(usize::from(seldom(c, 50, 8)));
+    let rows = q.rows().wrapping_add(usize::from(seldom(c, 51, 8)));
     let asked = Asked {
         lost,
         column: below(c, 52, columns),

@@ -2,7 +2,7 @@
 #![tactic(auto)]
 
 use comparing::{Pair, Tally};
-use drawing::{below, fill, one_in, pattern_of, seldom, spoil_lost};
+use drawing::{below, fill, pattern_of, seldom, spoil_lost};
 use second_ground::{Shape, revision_at};
 use total::{part, put16};
 
@@ -27,7 +27,7 @@ pub fn try_made(t: &mut Tally, q: Shape, c: usize, pair: &mut Pair) {
 
 // The parameters' test, and make with data or an image of a length that is not always due.
 pub fn try_unmade(t: &mut Tally, q: Shape, c: usize, pair: &mut Pair) {
-    let n = q.data_size().wrapping_add(one_in(c, 10, 3));
+    let n = q.data_size().wrapping_add(usize::from(seldom(c, 10, 3)));
     t.parameters(q);
     let room = &mut *pair.room;
     t.make(q, part(room, 0, n), pair.one, pair.two);

@@ -4,7 +4,7 @@
 use second_ground::{
     HALF_CIRCLE, No, Note, Shape, Slip, Unwritten, Written, read, revision_at, touched,
 };
-use total::{add, add_within, bit, copy, number32, one_at, part, part_mut, put16, put32};
+use total::{add_each, add_within, bit, copy, number32, one_at, part, part_mut, put16, put32};
 
 // Adds the strip at a place to those rows of the column at another that a word names.
 fn add_to_rows(image: &mut [u8], q: Shape, named: u64, to: usize, from: usize) {
@@ -157,7 +157,7 @@ fn move_parity(image: &mut [u8], q: Shape, i: usize, t: usize) -> u64 {
 // A write that nothing refuses: the difference stands in the strip's place until parity has it.
 pub fn accept(image: &mut [u8], q: Shape, note: Note) -> Written {
     let at = q.strip_at(note.column, note.row);
-    add(part_mut(image, at, q.b), note.strip);
+    add_each(part_mut(image, at, q.b), note.strip);
     let count = move_parity(image, q, note.column, note.row);
     copy(part_mut(image, at, q.b), note.strip);
     let revision = note.base.wrapping_add(1);

@@ -2,6 +2,12 @@
 // walking the chain c_(q-a) + c_(q-b) = s_q. Safe whatever it is handed.
 #![tactic(auto)]
 
+ghost use Rattle.std.specs.Prelude.{◌≡◌, ◌+◌, ◌-◌, ◌*◌, ◌%◌, ◌^◌, ◌↔◌, IsTrue};
+ghost use Rattle.total.specs.Words.{ones_below};
+ghost use Rattle.second_ground.specs.Number.{number_of};
+ghost use Rattle.second_ground.specs.Sizes.{column_size};
+ghost use Rattle.second_ground.specs.Tested.{tested_of};
+
 use std::cmp::Ordering;
 use total::{bit, number16, one_at, ones_below};
 
@@ -29,7 +35,9 @@ pub enum No {
 
 impl No {
     // The number that the documents give it.
-    pub fn number(self) -> u64 {
+    pub fn number(self) -> u64
+        ensures { result ≡ number_of self }
+    {
         self as u64
     }
 }
@@ -124,7 +132,9 @@ pub struct Shape {
 
 impl Shape {
     // The same parameters, tested: PRIME, SHAPE, STRIP.
-    pub fn tested(self) -> Result<Shape, No> {
+    pub fn tested(self) -> Result<Shape, No>
+        ensures { result ≡ tested_of self }
+    {
         if !PRIMES.contains(&self.p) {
             return Err(No::Prime);
         }
@@ -138,37 +148,51 @@ impl Shape {
     }
 
     // Whether a slip is the one to make.
-    pub fn makes(self, slip: Slip) -> bool {
+    pub fn makes(self, slip: Slip) -> bool
+        ensures { IsTrue result ↔ (self.slip ≡ Some slip) }
+    {
         self.slip == Some(slip)
     }
 
     // The rows of a column.
-    pub fn rows(self) -> usize {
+    pub fn rows(self) -> usize
+        ensures { result ≡ self.p - 1 }
+    {
         self.p.saturating_sub(1)
     }
 
     // The number of columns.
-    pub fn columns(self) -> usize {
+    pub fn columns(self) -> usize
+        ensures { result ≡ (self.k + self.r) % 2 ^ 64 }
+    {
         self.parity(self.r)
     }
 
     // Which column parity j is.
-    pub fn parity(self, j: usize) -> usize {
+    pub fn parity(self, j: usize) -> usize
+        ensures { result ≡ (self.k + j) % 2 ^ 64 }
+    {
         self.k.wrapping_add(j)
     }
 
     // The pattern of all columns.
-    pub fn all_columns(self) -> u64 {
+    pub fn all_columns(self) -> u64
+        ensures { result ≡ ones_below ((self.k + self.r) % 2 ^ 64) }
+    {
         ones_below(self.columns())
     }
 
     // The bytes of a column.
-    pub fn column_size(self) -> usize {
+    pub fn column_size(self) -> usize
+        ensures { result ≡ column_size self }
+    {
         self.rows().wrapping_mul(self.b)
     }
 
     // The bytes of the data.
-    pub fn data_size(self) -> usize {
+    pub fn data_size(self) -> usize
+        ensures { result ≡ self.k * column_size self % 2 ^ 64 }
+    {
         self.k.wrapping_mul(self.column_size())
     }
 
@@ -198,7 +222,9 @@ impl Shape {
 }
 
 // Where the revision of a data column stands; after the last one the count of section 3.
-pub fn revision_at(column: usize) -> usize {
+pub fn revision_at(column: usize) -> usize
+    ensures { result ≡ (4 * column + 12) % 2 ^ 64 }
+{
     column.wrapping_mul(4).wrapping_add(12)
 }
 

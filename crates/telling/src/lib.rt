@@ -9,13 +9,13 @@ use std::io::{ErrorKind, Write};
 use std::rt::Files;
 use std::{fs, io};
 
-// The line of a group.
+// The line of what was seen under a name.
 pub fn tell(rt: &impl Print, name: &str, t: &Tally) -> io::Result<()> {
     println!(rt; "{name}: cases {} differences {}", t.cases, t.differences)
 }
 
 // The name of a group of drawn cases.
-pub fn name_of(group: Group) -> &'static str {
+fn name_of(group: Group) -> &'static str {
     match group {
         Group::Ring => "ring",
         Group::Made => "make, check, refill",
@@ -28,6 +28,11 @@ pub fn name_of(group: Group) -> &'static str {
         Group::Widest => "wide stripes, p = 61",
         Group::Away => "writes while columns are away",
     }
+}
+
+// The line of a group of drawn cases.
+pub fn say_group(rt: &impl Print, group: Group, t: &Tally) -> io::Result<()> {
+    tell(rt, name_of(group), t)
 }
 
 // How often drawn cases met each refusal: never stands out. 0 is no refusal, and LONG is given by a report alone.

@@ -1,51 +1,65 @@
 // Parts, bits and numbers of slices for code that is safe whatever it is handed: what does not lie within reads as 0 or as no item and is never written.
 #![tactic(auto)]
 
+ghost use Rattle.std.specs.Prelude.{◌≡◌, ◌++◌, length, take, drop};
+ghost use Rattle.std.specs.Bool.{OnTrue, OnFalse};
+ghost use Rattle.total.specs.Parts.{part_of, Added, are_apart, AddedWithin};
+ghost use Rattle.total.specs.Words.{one_at, ones_below};
+
 use std::ops::BitXorAssign;
 
 // The n items at a place; none where they do not all lie within.
-pub fn part<T>(s: &[T], at: usize, n: usize) -> &[T] {
+pub fn part<T>(s: &[T], at: usize, n: usize) -> &[T]
+    ensures { result.now ≡ part_of s.now at n }
+{
     s.get(at..at.wrapping_add(n)).unwrap_or(&[])
 }
 
 // The same, to be written.
-pub fn part_mut<T>(s: &mut [T], at: usize, n: usize) -> &mut [T] {
+pub fn part_mut<T>(s: &mut [T], at: usize, n: usize) -> &mut [T]
+    ensures { result.now ≡ part_of s.old at n }
+{
     s.get_mut(at..at.wrapping_add(n)).unwrap_or(&mut [])
 }
 
 // Puts the items of one slice into another, as far as both go.
-pub fn copy<T: Copy>(to: &mut [T], from: &[T]) {
-    for (x, y) in to.iter_mut().zip(from) {
-        *x = *y;
-    }
+pub fn copy<T: Copy>(to: &mut [T], from: &[T])
+    ensures { to.new ≡ take (length to.old) from.now ++ drop (length from.now) to.old }
+{
+    let n = to.len().min(from.len());
+    to[..n].copy_from_slice(&from[..n]);
 }
 
 // Adds the items of one slice to those of another, as far as both go.
-pub fn add<T: Copy + BitXorAssign>(to: &mut [T], from: &[T])
+pub fn add_each<T: Copy + BitXorAssign>(to: &mut [T], from: &[T])
     requires { (x : _) (y : _) → T.can_bitxor_assign x y }
+    ensures { Added T.bitxor_assign_gives to.old from.now to.new }
 {
-    for (x, y) in to.iter_mut().zip(from) {
-        *x ^= *y;
+    for (i, x) in to.iter_mut().enumerate() {
+        if let Some(y) = from.get(i) {
+            *x ^= *y;
+        }
     }
 }
 
-// The n items at one place, to be written, and those at another that do not overlap them.
-fn two_parts<T>(s: &mut [T], to: usize, from: usize, n: usize) -> Option<(&mut [T], &[T])> {
-    if to < from {
-        let (front, back) = s.split_at_mut_checked(from)?;
-        Some((front.get_mut(to..to.wrapping_add(n))?, back.get(..n)?))
-    } else {
-        let (front, back) = s.split_at_mut_checked(to)?;
-        Some((back.get_mut(..n)?, front.get(from..from.wrapping_add(n))?))
-    }
+// Whether the n items at two places of a slice so long all lie within it and do not overlap.
+fn are_apart(len: usize, to: usize, from: usize, n: usize) -> bool
+    ensures { result ≡ are_apart len to from n }
+{
+    n <= len && to <= len - n && from <= len - n && (to + n <= from || from + n <= to)
 }
 
 // Adds the n items at one place of a slice to those at another that do not overlap them.
 pub fn add_within<T: Copy + BitXorAssign>(s: &mut [T], to: usize, from: usize, n: usize)
     requires { (x : _) (y : _) → T.can_bitxor_assign x y }
+    ensures added { OnTrue (are_apart (length s.old) to from n) (AddedWithin T.bitxor_assign_gives s.old s.new to from n) }
+    ensures else_same { OnFalse (are_apart (length s.old) to from n) (s.new ≡ s.old) }
 {
-    if let Some((to, from)) = two_parts(s, to, from, n) {
-        add(to, from);
+    if are_apart(s.len(), to, from, n) {
+        for i in 0..n {
+            let y = s[from + i];
+            s[to + i] ^= y;
+        }
     }
 }
 
@@ -55,12 +69,16 @@ pub fn bit(w: u64, i: usize) -> bool {
 }
 
 // The word with bit i alone.
-pub fn one_at(i: usize) -> u64 {
+pub fn one_at(i: usize) -> u64
+    ensures { result ≡ one_at i }
+{
     if i < 64 { 1 << i } else { 0 }
 }
 
 // The word with the bits below n, for n below 64.
-pub fn ones_below(n: usize) -> u64 {
+pub fn ones_below(n: usize) -> u64
+    ensures { result ≡ ones_below n }
+{
     one_at(n).wrapping_sub(1)
 }
 
