@@ -208,7 +208,9 @@ fn change_beside(
 ) -> Result<Answer, Answer>
     requires { 1874176 ≤ length image.old }
 {
-    let mut file = files::told(rt, new, files::create(rt, new)).ok_or(Answer::Said)?;
+    let mut file = files::create(rt, new)
+        .inspect_err(|e| files::fail(rt, new, e))
+        .map_err(|_| Answer::Said)?;
     let outcome = change_into(rt, asked, &mut file, new, image, other);
     if outcome.is_err() {
         files::remove(rt, new);

@@ -116,6 +116,7 @@ pub fn meet(files: &[u8]) -> Result<u64, Refusal>
 {
     let mut at: usize = 0;
     let mut met: u64 = 0;
+    // Stays: each file tells where the next one starts, and what stands behind the last; no iterator knows either before.
     loop {
         let file = read_file(files, at, met)?;
         met = with_column(met, file.column);

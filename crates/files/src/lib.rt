@@ -39,14 +39,14 @@ pub fn complain(rt: &impl Eprint, what: &[u8], why: &str) {
 }
 
 // The same where a call failed: the system's words, without the number behind them.
-fn fail(rt: &impl Eprint, what: &[u8], e: &Error) {
+pub fn fail(rt: &impl Eprint, what: &[u8], e: &Error) {
     let mut text = ArrayString::<256>::new();
     let _ = write!(text, "{e}");
     complain(rt, what, text.split(" (os error ").next().unwrap_or(""));
 }
 
 // What a call gave; nothing where it failed, and why is said.
-pub fn told<T>(rt: &impl Eprint, what: &[u8], outcome: io::Result<T>) -> Option<T>
+fn told<T>(rt: &impl Eprint, what: &[u8], outcome: io::Result<T>) -> Option<T>
     ensures { result ≡ result_ok outcome }
 {
     outcome.inspect_err(|e| fail(rt, what, e)).ok()

@@ -22,7 +22,7 @@ use Rattle.words.proofs.Cutting.{parts_some}
 use Rattle.words.proofs.Listing.{some_listed}
 use Rattle.words.specs.Columns.{columns_of, named, then_named, with_column}
 use Rattle.words.specs.Decimal.{decimal_of, is_numeral, all_digits, is_digit, spelled}
-use Rattle.words.specs.Words.{parts, before_first, same_bytes}
+use Rattle.words.specs.Words.{parts, before_first}
 use Rattle.answers.specs.List.{is_none, comma, next_text, columns_below, list_of}
 
 -- ---- the pattern of the columns below n
@@ -169,14 +169,13 @@ every_so_far w (suc n) h = subst (λ (m : ℕ). SoFar (columns_below w m) (so_fa
 -- ---- the word of a pattern of 64 bits
 
 word_read : (s : List ℕ) (u : ℕ) → Reads s u → Some u ≡ columns_of s
-unfolding same_bytes
 word_read [] u r = absurd (zero_no_digit r.starts)
 word_read (c ∷ s) u r =
     let n : c ≡ 45 → ⊥ = λ e. omega (arith, digit_low c r.starts) in
     sym r.reads ∙ some_listed (c ∷ s) (λ z. omega arith) (rw (ne_eqb c 45 n))
 
 pub list_read : (w : ℕ) → w < 2 ^ 64 → columns_of (list_of w) ≡ Some w
-unfolding list_of same_bytes
+unfolding list_of
 list_read w h =
     elim (ℕ_discrete w 0) [
       | yes e ↦ rw e

@@ -14,7 +14,6 @@ use Rattle.words.specs.Words.{same_bytes}
 use Rattle.words.specs.declared.Command.TheVariants.{Usage}
 
 unlike : (s t : List ℕ) → (s ≡ t → ⊥) → same_bytes s t ≡ false
-unfolding same_bytes
 unlike [] [] n = absurd (n refl)
 unlike [] (y ∷ t) n = refl
 unlike (x ∷ s) [] n = refl

@@ -5,7 +5,7 @@ use Rattle.laws.specs.Bit.{bit, pack}
 use Rattle.words.specs.Command.{command_of, import_name}
 use Rattle.words.specs.Columns.{named, columns_of, with_column}
 use Rattle.words.specs.Decimal.{spelled, decimal_of, all_digits, is_numeral}
-use Rattle.words.specs.Words.{before_first, same_bytes, parts}
+use Rattle.words.specs.Words.{before_first, parts}
 use Rattle.words.specs.declared.Command.TheVariants.{Import, Usage}
 
 -- 0, 007, 18446744073709551615 and one more, nothing, 1:
@@ -35,30 +35,26 @@ colon_word = refl
 
 -- 0,3 is the pattern 9; 0, is no list; 64 is column 63; - and nothing are none
 two_columns : columns_of (48 ∷ 44 ∷ 51 ∷ []) ≡ Some 9
-unfolding named with_column parts before_first same_bytes decimal_of is_numeral all_digits spelled pack bit
+unfolding named with_column parts before_first decimal_of is_numeral all_digits spelled pack bit
 two_columns = refl
 
 comma_left : columns_of (48 ∷ 44 ∷ []) ≡ None
-unfolding named with_column parts before_first same_bytes decimal_of is_numeral all_digits spelled pack bit
+unfolding named with_column parts before_first decimal_of is_numeral all_digits spelled pack bit
 comma_left = refl
 
 far_column : columns_of (54 ∷ 52 ∷ []) ≡ Some (2 ^ 63)
-unfolding named with_column parts before_first same_bytes decimal_of is_numeral all_digits spelled pack bit
+unfolding named with_column parts before_first decimal_of is_numeral all_digits spelled pack bit
 far_column = refl
 
 dash : columns_of (45 ∷ []) ≡ Some 0
-unfolding same_bytes
 dash = refl
 
 -- an import of no file gets usage; one file is enough, and more are taken
 no_file : command_of (import_name ∷ [] ∷ []) ≡ Usage
-unfolding same_bytes
 no_file = refl
 
 one_file : command_of (import_name ∷ [] ∷ [] ∷ []) ≡ Import
-unfolding same_bytes
 one_file = refl
 
 more_files : command_of (import_name ∷ [] ∷ [] ∷ [] ∷ [] ∷ [] ∷ [] ∷ []) ≡ Import
-unfolding same_bytes
 more_files = refl

@@ -25,6 +25,5 @@ all_read ws i w whole h e = rw (drop_of_length-le ws h) at e
 
 -- a word that is neither nothing nor `-`
 pub some_listed : (s : List ℕ) → (length s ≡ 0 → ⊥) → same_bytes s (45 ∷ []) ≡ false → named (parts 44 s) 0 ≡ columns_of s
-unfolding same_bytes
 some_listed [] z n = absurd (z refl)
 some_listed (c ∷ s) z n = rw n

@@ -1,6 +1,6 @@
 -- The words of a line: what stands between its marks.
 -- Assumes nothing.
-use Rattle.std.specs.Prelude.{ℕ, ◌≤◌, ◌<◌, Bool, true, false, ◌&&◌, List, [], ◌∷◌, ◌≡◌, eqb, length, get_or}
+use Rattle.std.specs.Prelude.{ℕ, Bool, true, false, ◌&&◌, List, [], ◌∷◌, eqb}
 use Rattle.laws.specs.Choose.{choose}
 
 -- a byte more at the front of the first word
@@ -14,15 +14,8 @@ parts m [] = [] ∷ []
 parts m (c ∷ s) = choose (eqb c m) ([] ∷ parts m s) (before_first c (parts m s))
 
 -- two lists have the same bytes
-unfoldable pub same_bytes : List ℕ → List ℕ → Bool
+abbrev pub same_bytes : List ℕ → List ℕ → Bool
 same_bytes [] [] = true
 same_bytes [] (y ∷ t) = false
 same_bytes (x ∷ s) [] = false
 same_bytes (x ∷ s) (y ∷ t) = eqb x y && same_bytes s t
-
--- x is where the first mark stands from a place on, or where s ends
-pub record Cut (s : List ℕ) (from m x : ℕ) : Type 0 where
-  pub low : from ≤ x
-  pub high : x ≤ length s
-  pub clear : (i : ℕ) → from ≤ i → i < x → get_or s i 0 ≡ m → ⊥
-  pub marked : x < length s → get_or s x 0 ≡ m

@@ -88,7 +88,6 @@ fn listed(word: &[u8]) -> Option<u64>
 }
 
 // The pattern of the columns that a word lists; nothing and `-` list none.
-#[tactic(auto, unfolding(crate::specs::Words::same_bytes))]
 fn columns(word: &[u8]) -> Option<u64>
     ensures { result ≡ columns_of word.now }
 {
@@ -131,7 +130,6 @@ fn show_words(line: &[u8], mark: u8) -> Option<Command>
 }
 
 // The command that a line asks for, if it asks for one.
-#[tactic(auto, unfolding(crate::specs::Words::same_bytes))]
 fn asked(line: &[u8], mark: u8) -> Option<Command>
     ensures { or_usage result ≡ command_of (parts mark line.now) }
 {

@@ -7,7 +7,6 @@ use Rattle.words.specs.Words.{same_bytes}
 use Rattle.words.proofs.same.Goals as goal
 
 compared : (s t : List ℕ) → pointwise eqb s t ≡ same_bytes s t
-unfolding same_bytes
 compared [] [] = refl
 compared [] (y ∷ t) = refl
 compared (x ∷ s) [] = refl
