@@ -96,8 +96,8 @@ module _ (s v : List ℕ) (q : Params) (m i t b : ℕ) (y : Age) (r : y ≡ judg
 
 -- ---- what `write_sound` is asked
 
-pub read_target : (s v : List ℕ) (i t : ℕ) (q : Params) (w : Result Params Refusal) → w ≡ Ok q → w ≡ read_of s → i < q.k → t < q.p - 1 → length v ≡ q.b → Target s q i t v
-read_target s v i t q w f e h g k = record { accepted = read_image s q w e f; column = h; row = g; width = k }
+pub read_target : (s v : List ℕ) (m i t : ℕ) (q : Params) (w : Result Params Refusal) → w ≡ Ok q → w ≡ read_of s → i < q.k → t < q.p - 1 → length v ≡ q.b → Target s (record { q = q; lost = m; column = i; row = t }) v
+read_target s v m i t q w f e h g k = record { accepted = read_image s q w e f; column = h; row = g; width = k }
 
 pub within_column : (q : Params) (m i : ℕ) (x : Bool) → x ≡ (pattern_fits q m && ltb i q.k) → x ≡ true → i < q.k
 within_column q m i x c h =

@@ -9,11 +9,11 @@ ghost use Rattle.stripe.specs.Params.{Admitted};
 ghost use Rattle.pattern.specs.Pattern.{is_lost, pattern_fits};
 ghost use Rattle.rebuild.specs.Inner.{StripLost};
 ghost use Rattle.revision.specs.Revision.{judged};
-ghost use Rattle.revision.specs.declared.Age.TheVariants.{Current};
 ghost use Rattle.present.specs.Steps.{Target};
 ghost use Rattle.away.specs.Away.{away_judged, away_of};
 ghost use Rattle.away.specs.Steps.{Away, Lent, restored_in, Back, AwayPlaced};
 
+use present::Spot;
 use refusal::Refusal;
 use stripe::Params;
 use write::{Accepted, Refused};
@@ -28,125 +28,69 @@ fn hold(image: &[u8], at: usize, held: &mut [u8])
 }
 
 // Puts the strip of a lost data column, as a rebuild would have it, in its place, by way of a lent strip.
-fn restore_in(image: &mut [u8], q: Params, lost: u64, column: usize, row: usize, old: &mut [u8])
-    requires { StripLost image.old q lost column row old.old × (column < q.k) }
-    ensures { image.new ≡ restored_in image.old q lost column row }
+#[tactic(auto, unfolding(crate::specs::Steps::restored_in))]
+fn restore_in(image: &mut [u8], spot: Spot, old: &mut [u8])
+    requires { StripLost image.old spot.q spot.lost spot.column spot.row old.old × (spot.column < spot.q.k) }
+    ensures { image.new ≡ restored_in image.old spot }
 {
-    rebuild::restore_strip(image, q, lost, column, row, old);
-    engine::copy_in(image, q.strip_at(column, row), old);
+    rebuild::restore_strip(image, spot.q, spot.lost, spot.column, spot.row, old);
+    engine::copy_in(image, spot.at(), old);
 }
 
 // Adds the difference of a new strip to present parity and puts the held bytes in its place; gives the count of strips added to.
-fn place_back(
-    image: &mut [u8],
-    q: Params,
-    lost: u64,
-    column: usize,
-    row: usize,
-    strip: &[u8],
-    held: &[u8],
-) -> u64
-    requires { Target image.old q column row strip.now × (length held.now ≡ q.b) }
-    ensures { Back image.old image.new q lost column row strip.now held.now result }
+fn place_back(image: &mut [u8], spot: Spot, strip: &[u8], held: &[u8]) -> u64
+    requires { Target image.old spot strip.now × (length held.now ≡ spot.q.b) }
+    ensures { Back image.old image.new spot strip.now held.now result }
 {
-    let count = write::place(image, q, lost, column, row, strip);
-    engine::copy_in(image, q.strip_at(column, row), held);
+    let count = write::place(image, spot, strip);
+    engine::copy_in(image, spot.at(), held);
     count
 }
 
 // Adds the difference of a new strip of a lost column to present parity, by way of two lent strips; gives the count of strips added to. The restored
 // strip stands in the image meanwhile; then come back the bytes that the column held.
-fn place_by(
-    image: &mut [u8],
-    q: Params,
-    lost: u64,
-    column: usize,
-    row: usize,
-    strip: &[u8],
-    held: &mut [u8],
-    old: &mut [u8],
-) -> u64
-    requires { Away image.old q lost column row strip.now × (is_lost lost column ≡ true) × Lent q held.old old.old }
-    ensures { AwayPlaced image.old image.new q lost column row strip.now result }
+fn place_by(image: &mut [u8], spot: Spot, strip: &[u8], held: &mut [u8], old: &mut [u8]) -> u64
+    requires { Away image.old spot strip.now × (is_lost spot.lost spot.column ≡ true) × Lent spot.q held.old old.old }
+    ensures { AwayPlaced image.old image.new spot strip.now result }
 {
-    hold(image, q.strip_at(column, row), held);
-    restore_in(image, q, lost, column, row, old);
-    place_back(image, q, lost, column, row, strip, held)
+    hold(image, spot.at(), held);
+    restore_in(image, spot, old);
+    place_back(image, spot, strip, held)
 }
 
 // The same by way of buffers of its own.
-fn place_lost(
-    image: &mut [u8],
-    q: Params,
-    lost: u64,
-    column: usize,
-    row: usize,
-    strip: &[u8],
-) -> u64
-    requires { Away image.old q lost column row strip.now × (is_lost lost column ≡ true) }
-    ensures { AwayPlaced image.old image.new q lost column row strip.now result }
+fn place_lost(image: &mut [u8], spot: Spot, strip: &[u8]) -> u64
+    requires { Away image.old spot strip.now × (is_lost spot.lost spot.column ≡ true) }
+    ensures { AwayPlaced image.old image.new spot strip.now result }
 {
-    let b = q.b;
+    let b = spot.q.b;
     let mut held = Params::blank_strip();
     let mut old = Params::blank_strip();
-    place_by(
-        image,
-        q,
-        lost,
-        column,
-        row,
-        strip,
-        &mut held[0..b],
-        &mut old[0..b],
-    )
+    place_by(image, spot, strip, &mut held[0..b], &mut old[0..b])
 }
 
 // Puts a strip in place, where its column is present, and adds its difference to present parity; gives the count of strips added to.
-fn place(image: &mut [u8], q: Params, lost: u64, column: usize, row: usize, strip: &[u8]) -> u64
-    requires { Away image.old q lost column row strip.now }
-    ensures { AwayPlaced image.old image.new q lost column row strip.now result }
+fn place(image: &mut [u8], spot: Spot, strip: &[u8]) -> u64
+    requires { Away image.old spot strip.now }
+    ensures { AwayPlaced image.old image.new spot strip.now result }
 {
-    if pattern::is_lost(lost, column) {
-        return place_lost(image, q, lost, column, row, strip);
+    if pattern::is_lost(spot.lost, spot.column) {
+        return place_lost(image, spot, strip);
     }
-    write::place(image, q, lost, column, row, strip)
+    write::place(image, spot, strip)
 }
 
-// A write whose base is current: present parity, the strip where its column is present, the revision.
-fn accept(
-    image: &mut [u8],
-    q: Params,
-    lost: u64,
-    column: usize,
-    row: usize,
-    base: u32,
-    strip: &[u8],
-) -> Result<Accepted, Refused>
-    requires { Away image.old q lost column row strip.now }
-    ensures { Leaves (away_judged image.old q lost column row base strip.now Current) result image.new }
+// A write where all but the base is sound: present parity, the strip where its column is present, the revision.
+fn write_sound(image: &mut [u8], spot: Spot, base: u32, strip: &[u8]) -> Result<Accepted, Refused>
+    requires { Away image.old spot strip.now }
+    ensures { Leaves (away_judged image.old spot.q spot.lost spot.column spot.row base strip.now (judged (revision_of image.old spot.column) base)) result image.new }
 {
-    let count = place(image, q, lost, column, row, strip);
-    write::settle(image, q, column, base, count)
-}
-
-// A write where all but the base is sound.
-fn write_sound(
-    image: &mut [u8],
-    q: Params,
-    lost: u64,
-    column: usize,
-    row: usize,
-    base: u32,
-    strip: &[u8],
-) -> Result<Accepted, Refused>
-    requires { Away image.old q lost column row strip.now }
-    ensures { Leaves (away_judged image.old q lost column row base strip.now (judged (revision_of image.old column) base)) result image.new }
-{
-    let age = write::age_of(image, q, column, base);
+    let age = write::age_of(image, spot, base);
     if !age.is_current() {
         return Err(Refused::Aged(age));
     }
-    accept(image, q, lost, column, row, base, strip)
+    let count = place(image, spot, strip);
+    write::settle(image, spot, base, count)
 }
 
 // Whether the pattern names columns of the stripe alone, and the column is one of its data.
@@ -182,5 +126,11 @@ pub fn write(
     if !pattern::is_few(q, lost) {
         return Err(Refused::Other(Refusal::Many));
     }
-    write_sound(image, q, lost, column, row, base, strip)
+    let spot = Spot {
+        q,
+        lost,
+        column,
+        row,
+    };
+    write_sound(image, spot, base, strip)
 }

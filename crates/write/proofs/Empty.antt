@@ -44,7 +44,7 @@ written_none s q i t b v =
     let u : List ℕ = patch s (parity_from q) (q.r * column_length q) (present_moved s q 0 i t (difference s q i t v)) in
     ap (λ (l : List ℕ). put32 l (revision_at i) (renewed b)) (strip_none u q i t v ∙ ap (λ (l : List ℕ). put l (strip_at q i t) v) (parity_none s q i t v))
 
-pub none_settled : (s u : List ℕ) (q : Params) (i t b : ℕ) (v : List ℕ) (n : ℕ) → Placed s u q 0 i t v n → settled u i b n ≡ write_judged s q i t b v Current
+pub none_settled : (s u : List ℕ) (q : Params) (i t b : ℕ) (v : List ℕ) (n : ℕ) → Placed s u (record { q = q; lost = 0; column = i; row = t }) v n → settled u i b n ≡ write_judged s q i t b v Current
 unfolding write_judged settled written
 none_settled s u q i t b v n P =
     ap₂ (λ (c : ℕ) (l : List ℕ). record { answer = Ok (record { revision = renewed b; count = c }); image = put32 l (revision_at i) (renewed b) }) (P.counted ∙ count_none q i t)

@@ -71,8 +71,8 @@ module _ (s v : List ℕ) (i t b : ℕ) (w : Result Params Refusal) (e : w ≡ r
         no_width k = leaves_is (write_of s i t b v) (record { answer = Err (Other Width); image = s }) (sound ∙ simp (lt-ltb i q.k h, lt-ltb t (rows q) g, ne_eqb (length v) q.b k))
 
         module _ (k : length v ≡ q.b) where
-          pub read_target : Target s q i t v
-          read_target = record { accepted = read_image s q w e f; column = h; row = g; width = k }
+          pub read_target : (m : ℕ) → Target s (record { q = q; lost = m; column = i; row = t }) v
+          read_target m = record { accepted = read_image s q w e f; column = h; row = g; width = k }
 
           module _ (y : Age) (l : y ≡ judged (revision_of s i) b) where
             way : write_of s i t b v ≡ write_judged s q i t b v y

@@ -1,15 +1,16 @@
 -- What a write and its inner functions ask for, and what each leaves.
 -- Assumes nothing.
-use Rattle.std.specs.Prelude.{ℕ, ◌+◌, ◌*◌, ◌<◌, ◌≤◌, List, ◌≡◌, length, get_or, Result, Ok}
+use Rattle.std.specs.Prelude.{ℕ, ◌+◌, ◌<◌, ◌≤◌, List, ◌≡◌, length, get_or, Result, Ok}
 use Rattle.laws.specs.Left.{Left}
 use Rattle.laws.specs.Number.{put32}
 use Rattle.laws.specs.Part.{put}
-use Rattle.laws.specs.Patch.{patch}
 use Rattle.laws.specs.Xor.{◌⊕◌}
 use Rattle.stripe.specs.declared.Params.{Params}
-use Rattle.stripe.specs.Layout.{column_length, data_count_at, data_from, parity_count_at, parity_from, revision_at, strip_at}
-use Rattle.present.specs.Present.{present_moved, present_count}
+use Rattle.stripe.specs.Layout.{data_count_at, data_from, parity_count_at, parity_from, revision_at}
+use Rattle.present.specs.declared.Spot.{Spot}
+use Rattle.present.specs.Present.{present_count}
 use Rattle.revision.specs.Revision.{renewed}
+use Rattle.present.specs.Steps.{spot_at, parity_moved}
 use Rattle.write.specs.Written.{difference}
 use Rattle.write.specs.declared.Accepted.{Accepted}
 use Rattle.write.specs.declared.Refused.{Refused}
@@ -23,15 +24,15 @@ pub record Strips (s : List ℕ) (at : ℕ) (v out : List ℕ) : Type 0 where
 unfoldable pub differed : List ℕ → ℕ → List ℕ → ℕ → ℕ
 differed s at v x = get_or s (at + x) 0 ⊕ get_or v x 0
 
--- s is now u: parity has moved by the difference between strip (i, t) and v, but for lost columns, and x is the count
-pub record Moved (s u : List ℕ) (q : Params) (m i t : ℕ) (v : List ℕ) (x : ℕ) : Type 0 where
-  pub counted : x ≡ present_count q m i t
-  pub bytes : u ≡ patch s (parity_from q) (q.r * column_length q) (present_moved s q m i t (difference s q i t v))
+-- s is now u: parity has moved by the difference between a data strip and v, but for lost columns, and x is the count
+pub record Moved (s u : List ℕ) (spot : Spot) (v : List ℕ) (x : ℕ) : Type 0 where
+  pub counted : x ≡ present_count spot.q spot.lost spot.column spot.row
+  pub bytes : u ≡ parity_moved s spot (difference s spot.q spot.column spot.row v)
 
 -- s is now u: the strip v is in its place too
-pub record Placed (s u : List ℕ) (q : Params) (m i t : ℕ) (v : List ℕ) (x : ℕ) : Type 0 where
-  pub counted : x ≡ present_count q m i t
-  pub bytes : u ≡ put (patch s (parity_from q) (q.r * column_length q) (present_moved s q m i t (difference s q i t v))) (strip_at q i t) v
+pub record Placed (s u : List ℕ) (spot : Spot) (v : List ℕ) (x : ℕ) : Type 0 where
+  pub counted : x ≡ present_count spot.q spot.lost spot.column spot.row
+  pub bytes : u ≡ put (parity_moved s spot (difference s spot.q spot.column spot.row v)) (spot_at spot) v
 
 -- what is left where s has all but the revision of column i, and x is the count
 unfoldable pub settled : List ℕ → ℕ → ℕ → ℕ → Left (Result Accepted Refused)

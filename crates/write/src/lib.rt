@@ -7,13 +7,13 @@ ghost use Rattle.stripe.specs.Layout.{image_length, revision_of};
 ghost use Rattle.stripe.specs.Params.{Admitted};
 ghost use Rattle.stripe.specs.Reading.{Image};
 ghost use Rattle.revision.specs.Revision.{judged};
-ghost use Rattle.revision.specs.declared.Age.TheVariants.{Current};
 ghost use Rattle.write.specs.declared.Refused.TheVariants.{Other};
-ghost use Rattle.write.specs.Written.{write_judged, write_of};
+ghost use Rattle.write.specs.Written.{write_of};
 ghost use Rattle.present.specs.Steps.{Target};
 ghost use Rattle.laws.specs.Left.{Leaves};
 ghost use Rattle.write.specs.Steps.{Strips, differed, Moved, Placed, settled};
 
+use present::Spot;
 use refusal::Refusal;
 use revision::Age;
 use stripe::Params;
@@ -51,87 +51,51 @@ fn differ(image: &[u8], at: usize, strip: &[u8], out: &mut [u8])
 }
 
 // Adds the difference that a new strip makes to present parity, by way of a lent strip; gives the count of strips added to.
-fn update_by(
-    image: &mut [u8],
-    q: Params,
-    lost: u64,
-    column: usize,
-    row: usize,
-    strip: &[u8],
-    diff: &mut [u8],
-) -> u64
-    requires { Target image.old q column row strip.now × (length diff.old ≡ q.b) }
-    ensures { Moved image.old image.new q lost column row strip.now result }
+fn update_by(image: &mut [u8], spot: Spot, strip: &[u8], diff: &mut [u8]) -> u64
+    requires { Target image.old spot strip.now × (length diff.old ≡ spot.q.b) }
+    ensures { Moved image.old image.new spot strip.now result }
 {
-    differ(image, q.strip_at(column, row), strip, diff);
-    present::move_parity(image, q, lost, column, row, diff)
+    differ(image, spot.at(), strip, diff);
+    present::move_parity(image, spot, diff)
 }
 
 // The same by way of a buffer of its own.
-fn update_parity(
-    image: &mut [u8],
-    q: Params,
-    lost: u64,
-    column: usize,
-    row: usize,
-    strip: &[u8],
-) -> u64
-    requires { Target image.old q column row strip.now }
-    ensures { Moved image.old image.new q lost column row strip.now result }
+fn update_parity(image: &mut [u8], spot: Spot, strip: &[u8]) -> u64
+    requires { Target image.old spot strip.now }
+    ensures { Moved image.old image.new spot strip.now result }
 {
-    let b = q.b;
+    let b = spot.q.b;
     let mut buffer = Params::blank_strip();
-    update_by(image, q, lost, column, row, strip, &mut buffer[0..b])
+    update_by(image, spot, strip, &mut buffer[0..b])
 }
 
 // Puts a strip in place and adds its difference to present parity; gives the count of strips added to.
-pub fn place(image: &mut [u8], q: Params, lost: u64, column: usize, row: usize, strip: &[u8]) -> u64
-    requires { Target image.old q column row strip.now }
-    ensures { Placed image.old image.new q lost column row strip.now result }
+pub fn place(image: &mut [u8], spot: Spot, strip: &[u8]) -> u64
+    requires { Target image.old spot strip.now }
+    ensures { Placed image.old image.new spot strip.now result }
 {
-    let count = update_parity(image, q, lost, column, row, strip);
-    engine::copy_in(image, q.strip_at(column, row), strip);
+    let count = update_parity(image, spot, strip);
+    engine::copy_in(image, spot.at(), strip);
     count
 }
 
 // Sets the revision of a column that was written against a base; gives the answer.
-pub fn settle(
-    image: &mut [u8],
-    q: Params,
-    column: usize,
-    base: u32,
-    count: u64,
-) -> Result<Accepted, Refused>
-    requires { Admitted q × (column < q.k) × (length image.old ≡ image_length q) }
-    ensures { Leaves (settled image.old column base count) result image.new }
+#[tactic(auto, unfolding(crate::specs::Steps::settled))]
+pub fn settle(image: &mut [u8], spot: Spot, base: u32, count: u64) -> Result<Accepted, Refused>
+    requires { Admitted spot.q × (spot.column < spot.q.k) × (length image.old ≡ image_length spot.q) }
+    ensures { Leaves (settled image.old spot.column base count) result image.new }
 {
     let revision = revision::renew(base);
-    stripe::put_u32(image, q.revision_at(column), revision);
+    stripe::put_u32(image, spot.q.revision_at(spot.column), revision);
     Ok(Accepted { revision, count })
 }
 
-// A write whose base is current: parity, the strip, the revision.
-fn accept(
-    image: &mut [u8],
-    q: Params,
-    column: usize,
-    row: usize,
-    base: u32,
-    strip: &[u8],
-) -> Result<Accepted, Refused>
-    requires { Target image.old q column row strip.now }
-    ensures { Leaves (write_judged image.old q column row base strip.now Current) result image.new }
-{
-    let count = place(image, q, 0, column, row, strip);
-    settle(image, q, column, base, count)
-}
-
 // The age of a base against the revision of a column.
-pub fn age_of(image: &[u8], q: Params, column: usize, base: u32) -> Age
-    requires { Image image.now q × (column < q.k) }
-    ensures { result ≡ judged (revision_of image.now column) base }
+pub fn age_of(image: &[u8], spot: Spot, base: u32) -> Age
+    requires { Image image.now spot.q × (spot.column < spot.q.k) }
+    ensures { result ≡ judged (revision_of image.now spot.column) base }
 {
-    revision::judge(stripe::u32_at(image, q.revision_at(column)), base)
+    revision::judge(stripe::u32_at(image, spot.q.revision_at(spot.column)), base)
 }
 
 // Writes a strip where the base is the column's revision: puts it in place, adds its difference to parity, sets the next revision.
@@ -154,9 +118,16 @@ pub fn write(
     if strip.len() != q.b {
         return Err(Refused::Other(Refusal::Width));
     }
-    let age = age_of(image, q, column, base);
+    let spot = Spot {
+        q,
+        lost: 0,
+        column,
+        row,
+    };
+    let age = age_of(image, spot, base);
     if !age.is_current() {
         return Err(Refused::Aged(age));
     }
-    accept(image, q, column, row, base, strip)
+    let count = place(image, spot, strip);
+    settle(image, spot, base, count)
 }

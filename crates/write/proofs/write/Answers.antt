@@ -3,6 +3,8 @@
 use borrow.Author.Rules.{rules}
 use Rattle.laws.proofs.Handed.{handed}
 use Rattle.write.proofs.Ways.{unread, read_p, read_accepted, no_column, no_row, no_width, read_target, handed_on, current}
+use Rattle.present.specs.Steps.{Target}
+use Rattle.write.proofs.Laws.{placed_long, none_left}
 use Rattle.write.proofs.write.Goals as goal
 
 pub returns-in_err-q : goal.returns-in_err-q
@@ -26,8 +28,13 @@ age_of-age-requires c = (search (read_accepted, c.in_ok-q.was {u = tt}), search 
 pub returns-then-not-is_current : goal.returns-then-not-is_current
 returns-then-not-is_current c = search (handed_on, c.in_ok-q.was {u = tt})
 
-pub accept-requires : goal.accept-requires
-accept-requires c = search (read_target, c.in_ok-q.was {u = tt})
+pub place-count-requires : goal.place-count-requires
+place-count-requires c = search (read_target, c.in_ok-q.was {u = tt})
+
+pub settle-requires : goal.settle-requires
+settle-requires c =
+    let T : Target c.args.image.now (record { q = c.in_ok-q.q; lost = 0; column = c.args.column; row = c.args.row }) c.args.strip.now = search (read_target, c.in_ok-q.was {u = tt}) in
+    (T.accepted.admitted, T.column, placed_long _ _ _ _ _ T c.place-count.ensures)
 
 pub returns : goal.returns
-returns c = search (current, c.in_ok-q.was {u = tt})
+returns c = search (current, none_left, c.in_ok-q.was {u = tt})
