@@ -21,6 +21,7 @@ use stripe::Params;
 use write::{Accepted, Refused};
 
 // The number of the refusal, or 0, and the values; every one that the call does not name is 0.
+// Stays: three numbers, since that is what crosses the C interface.
 #[repr(C)]
 #[derive(Clone, Copy)]
 pub struct Answer {

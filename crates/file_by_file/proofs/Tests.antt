@@ -34,21 +34,13 @@ is_not x y z w e f n = ne_eqb y w (λ g. n (e ∙ g ∙ sym f))
 -- ---- the ways out of `is_counted`
 
 module _ (s : List ℕ) (at : ℕ) (q : Params) (n c x : ℕ) (hc : c ≡ carried q n) (hx : x ≡ u16 s (at + carried_at)) where
-  pub miscounted_2 : (x ≡ c → ⊥) → false ≡ counted s at q n
+  pub one_off : (x ≡ c → ⊥) → eqb x c ≡ counted s at q n
   unfolding counted
-  miscounted_2 g = simp (is_not x _ c _ hx hc g)
+  one_off g = simp (is_not x _ c _ hx hc g, ne_eqb x c g)
 
-  module _ (e : x ≡ c) (m y : ℕ) (hm : m ≡ strips_count_at q n) (hy : y ≡ u16 s (at + m)) where
-    there : y ≡ u16 s (at + strips_count_at q n)
-    there = rw hm at hy
-
-    pub miscounted_3 : (y ≡ q.p - 1 → ⊥) → false ≡ counted s at q n
-    unfolding counted
-    miscounted_3 g = simp (is x _ c _ hx hc e, is_not y _ (q.p - 1) _ there refl g)
-
-    pub well_counted : y ≡ q.p - 1 → true ≡ counted s at q n
-    unfolding counted
-    well_counted g = simp (is x _ c _ hx hc e, is y _ (q.p - 1) _ there refl g)
+  pub well_counted : x ≡ c → (m y : ℕ) → m ≡ strips_count_at q n → y ≡ u16 s (at + m) → eqb y (q.p - 1) ≡ counted s at q n
+  unfolding counted
+  well_counted e m y hm hy = let there : y ≡ u16 s (at + strips_count_at q n) = rw hm at hy in simp (is x _ c _ hx hc e, there)
 
 -- ---- the ways out of `read_column`
 

@@ -30,13 +30,8 @@ fn is_counted(files: &[u8], at: usize, q: Params, n: usize) -> bool
     requires { Whole files.now q at n }
     ensures { result ≡ counted files.now at q n }
 {
-    if stripe::number(files, at + column_file::CARRIED_AT) != column_file::carried(q, n) {
-        return false;
-    }
-    if stripe::number(files, at + column_file::strips_count_at(q, n)) != q.p - 1 {
-        return false;
-    }
-    true
+    stripe::number(files, at + column_file::CARRIED_AT) == column_file::carried(q, n)
+        && stripe::number(files, at + column_file::strips_count_at(q, n)) == q.p - 1
 }
 
 // The rest of the file of column n at a place: its length, and the other counts.

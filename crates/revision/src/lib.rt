@@ -20,6 +20,7 @@ pub enum Age {
 
 impl Age {
     // 0 where the base is current, else the number of the refusal.
+    // Stays: a number, since `age_number` says it and the C interface hands it on.
     pub fn number(self) -> u64
         ensures { result ≡ age_number self }
     {
