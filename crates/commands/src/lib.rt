@@ -85,6 +85,7 @@ fn view(
 }
 
 // The answer of a write that is refused.
+// Stays: no `From`, since both types are of crates of which neither stands on the other.
 fn refused(e: Refused) -> Answer {
     match e {
         Refused::Aged(age) => Answer::Aged(age),

@@ -98,6 +98,7 @@ fn add_run(s: &mut [u8], from: usize, b: usize, rows: usize, mask: u64, run: &[u
     ensures { Spread s.old s.new run.now from b rows mask }
 {
     let mut left = cut(mask, rows);
+    // Stays: a turn takes the lowest bit that is left; std has no iterator over the bits of a word.
     while left > 0 {
         let at = from + first(left) * b;
         add(&mut s[at..at + run.len()], run);

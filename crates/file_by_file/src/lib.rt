@@ -10,7 +10,7 @@ use refusal::Refusal;
 use stripe::Params;
 
 // One file: its column, and the place where it ends.
-#[derive(Clone, Copy)]
+#[derive(Clone, Copy, PartialEq, Eq, Debug)]
 pub struct File {
     pub column: usize,
     pub end: usize,

@@ -12,7 +12,7 @@ const WRITES: usize = 12;
 const FIRST: usize = 4;
 
 // By which call a history writes: the one on whole images, or the one while the columns of a pattern are away.
-#[derive(Clone, Copy)]
+#[derive(Clone, Copy, PartialEq, Eq, Debug)]
 pub enum Way {
     Whole,
     Away(u64),

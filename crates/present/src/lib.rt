@@ -11,7 +11,7 @@ ghost use Rattle.present.specs.Steps.{Crossing, Target, Shifted};
 use stripe::Params;
 
 // A data strip, by its column and its row, of a stripe of which the columns of a pattern are lost.
-#[derive(Clone, Copy)]
+#[derive(Clone, Copy, PartialEq, Eq, Debug)]
 pub struct Spot {
     pub q: Params,
     pub lost: u64,

@@ -11,6 +11,7 @@ ghost use Rattle.stripe.specs.Sections.{numbers_at, sixteen, three, opening, Put
 use refusal::Refusal;
 
 // The parameters p, k, r and B of a stripe.
+// Stays: `Admitted` in clauses and no invariant of the type: `numbers` answers any four numbers, and `column_file::flag` and its like ask for no more.
 #[derive(Clone, Copy, PartialEq, Eq, Debug)]
 pub struct Params {
     pub p: usize,

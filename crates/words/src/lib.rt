@@ -55,6 +55,7 @@ fn digit(c: u8) -> Option<u64>
 }
 
 // The number that a word is in decimal; above 2^64 - 1 it is none.
+// Stays: digit by digit, since `parse` takes a + before the digits, which `decimal_of` does not.
 pub fn decimal(word: &[u8]) -> Option<u64>
     ensures { result ≡ decimal_of word.now }
 {

@@ -19,14 +19,14 @@ use revision::Age;
 use stripe::Params;
 
 // What an accepted write comes to: the column's new revision, and the count of parity strips added to.
-#[derive(Clone, Copy)]
+#[derive(Clone, Copy, PartialEq, Eq, Debug)]
 pub struct Accepted {
     pub revision: u32,
     pub count: u64,
 }
 
 // Why a write is refused: the age of a base that is not current, or another refusal.
-#[derive(Clone, Copy)]
+#[derive(Clone, Copy, PartialEq, Eq, Debug)]
 pub enum Refused {
     Aged(Age),
     Other(Refusal),
