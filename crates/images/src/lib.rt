@@ -8,6 +8,7 @@ use std::rt::Files;
 use stripe::Params;
 
 // An image, or a column's file, that a command made or changed in its buffer: what to answer once it is kept, and its length.
+// Stays: a length beside a lent buffer, which has 1.8 million bytes; no heap is used.
 #[derive(Clone, Copy)]
 pub struct Changed {
     pub answer: Answer,
