@@ -1,6 +1,9 @@
 // Each call of the library beside the same call of the second implementation: answers and every lent byte are compared.
 #![tactic(auto)]
 
+ghost use Rattle.std.specs.Prelude.{◌≡◌, ℕ, ◌+◌, ◌%◌, ◌^◌, [], ◌∷◌, List, MatchResult, replicate};
+ghost use Rattle.comparing.specs.Seen.{once_more};
+
 use drawing::fill;
 use refusal::Refusal;
 use second_ground::{No, Shape, Slip, Unwritten, Written};
@@ -14,28 +17,39 @@ const REFUSALS_END: usize = 18;
 
 // What an answer gives where it is no refusal, in up to four numbers.
 pub trait Numbers {
-    fn numbers(self) -> [u64; 4];
+    ghost numbers_of: { Self → List ℕ };
+
+    fn numbers(self) -> [u64; 4]
+        ensures { result ≡ numbers_of self };
 }
 
 impl Numbers for () {
+    ghost numbers_of = { λ _. replicate 4 0 };
+
     fn numbers(self) -> [u64; 4] {
         [0; 4]
     }
 }
 
 impl Numbers for u64 {
+    ghost numbers_of = { λ n. n ∷ 0 ∷ 0 ∷ 0 ∷ [] };
+
     fn numbers(self) -> [u64; 4] {
         [self, 0, 0, 0]
     }
 }
 
 impl Numbers for Shape {
+    ghost numbers_of = { λ q. q.p ∷ q.k ∷ q.r ∷ q.b ∷ [] };
+
     fn numbers(self) -> [u64; 4] {
         [self.p, self.k, self.r, self.b].map(|n| n as u64)
     }
 }
 
 impl Numbers for Params {
+    ghost numbers_of = { λ q. q.p ∷ q.k ∷ q.r ∷ q.b ∷ [] };
+
     fn numbers(self) -> [u64; 4] {
         [self.p, self.k, self.r, self.b].map(|n| n as u64)
     }
@@ -51,7 +65,9 @@ pub struct Answer {
 
 impl Answer {
     // An answer that has numbers only where it is no refusal.
-    pub fn new<T: Numbers>(answer: Result<T, u64>) -> Answer {
+    pub fn new<T: Numbers>(answer: Result<T, u64>) -> Answer
+        ensures { MatchResult answer (λ given. result ≡ record { refusal = 0; beside = T.numbers_of given }) (λ number. result ≡ record { refusal = number; beside = replicate 4 0 }) }
+    {
         let (refusal, beside) = match answer {
             Ok(given) => (0, given.numbers()),
             Err(no) => (no, [0; 4]),
@@ -102,16 +118,6 @@ pub struct Pair<'a> {
 }
 
 impl Pair<'_> {
-    // The first n bytes of each, where they have so many.
-    pub fn first(&mut self, n: usize) -> Option<Pair<'_>> {
-        let Pair { one, two, room } = self;
-        Some(Pair {
-            one: one.get_mut(..n)?,
-            two: two.get_mut(..n)?,
-            room: room.get_mut(..n)?,
-        })
-    }
-
     // How many bytes of the images are different.
     pub fn apart(&self) -> usize {
         apart(self.one, self.two)
@@ -128,7 +134,7 @@ pub struct Tally {
 
 impl Tally {
     // Nothing seen yet.
-    pub fn new() -> Tally {
+    pub fn nothing() -> Tally {
         Tally {
             cases: 0,
             differences: 0,
@@ -137,26 +143,36 @@ impl Tally {
     }
 
     // No case and no difference, for the next group; how often each refusal was given stands.
-    pub fn start_group(&mut self) {
+    pub fn start_group(&mut self)
+        ensures { self.new ≡ record self.old { cases = 0; differences = 0 } }
+    {
         self.cases = 0;
         self.differences = 0;
     }
 
     // One more case.
-    pub fn start_case(&mut self) {
+    pub fn start_case(&mut self)
+        ensures { self.new ≡ record self.old { cases = (self.old.cases + 1) % 2 ^ 64 } }
+    {
         self.cases = self.cases.wrapping_add(1);
     }
 
     // More differences.
-    pub fn add(&mut self, differences: usize) {
+    pub fn add(&mut self, differences: usize)
+        ensures { self.new ≡ record self.old { differences = (self.old.differences + differences) % 2 ^ 64 } }
+    {
         self.differences = self.differences.wrapping_add(differences);
     }
 
     // An answer of the library in numbers, beside the one that is due.
-    pub fn compare(&mut self, answer: Answer, due: Answer) {
+    pub fn compare(&mut self, answer: Answer, due: Answer)
+        ensures cases { self.new.cases ≡ self.old.cases }
+        ensures given { self.new.given ≡ once_more self.old.given answer.refusal }
+    {
         self.add(answer.apart(due));
-        if let Some(times) = self.given.get_mut(answer.refusal as usize) {
-            *times = times.wrapping_add(1);
+        let refusal = answer.refusal as usize;
+        if refusal < REFUSALS_END {
+            self.given[refusal] = self.given[refusal].wrapping_add(1);
         }
     }
 

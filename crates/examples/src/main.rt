@@ -34,7 +34,7 @@ const FINDING: [Group; 7] = [
 
 // All groups of drawn cases; refusals are counted on from group to group.
 fn run_groups(rt: &impl Print, pair: &mut Pair) -> io::Result<()> {
-    let mut t = Tally::new();
+    let mut t = Tally::nothing();
     for (group, cases) in GROUPS {
         trials::run(group, cases, None, &mut t, pair);
         telling::say_group(rt, group, &t)?;
@@ -46,7 +46,7 @@ fn run_groups(rt: &impl Print, pair: &mut Pair) -> io::Result<()> {
 fn drawn_differences(slip: Slip, pair: &mut Pair) -> usize {
     let mut found: usize = 0;
     for group in FINDING {
-        let mut t = Tally::new();
+        let mut t = Tally::nothing();
         trials::run(group, 68, Some(slip), &mut t, pair);
         found = found.wrapping_add(t.differences);
     }
@@ -56,7 +56,7 @@ fn drawn_differences(slip: Slip, pair: &mut Pair) -> usize {
 // The self-test: plants each slip in the second implementation; the document's examples and drawn cases have to find it, and it has to do what the document says of it.
 fn self_test(rt: &impl Print, pair: &mut Pair) -> io::Result<()> {
     for slip in Slip::ALL {
-        let mut t = Tally::new();
+        let mut t = Tally::nothing();
         documented::slips(&mut t, Some(slip));
         let drawn = drawn_differences(slip, pair);
         telling::tell_slip(rt, slip, t.differences, drawn, documented::said(slip))?;
@@ -66,10 +66,10 @@ fn self_test(rt: &impl Print, pair: &mut Pair) -> io::Result<()> {
 
 // The document's examples: the limits, and what the slips would spoil.
 fn run_documented(rt: &impl Print) -> io::Result<()> {
-    let mut limits = Tally::new();
+    let mut limits = Tally::nothing();
     documented::limits(&mut limits);
     tell(rt, "limits", &limits)?;
-    let mut slips = Tally::new();
+    let mut slips = Tally::nothing();
     documented::slips(&mut slips, None);
     tell(rt, "slips", &slips)
 }

@@ -1,6 +1,9 @@
 // The second implementation of make, refill, check and write, from document 01 alone: each data strip is added to the parity strips that it is part of. Safe whatever it is handed, and slow.
 #![tactic(auto)]
 
+ghost use Rattle.std.specs.Prelude.{◌≡◌};
+ghost use Rattle.second.specs.Placed.{placed_of};
+
 use second_ground::{
     HALF_CIRCLE, No, Note, Shape, Slip, Unwritten, Written, read, revision_at, touched,
 };
@@ -124,7 +127,9 @@ fn judged(n: u32, b: u32, q: Shape) -> Result<(), Unwritten> {
 }
 
 // The refusal of where and how wide a write to an accepted image is.
-pub fn placed(q: Shape, note: Note) -> Result<(), No> {
+pub fn placed(q: Shape, note: Note) -> Result<(), No>
+    ensures { result ≡ placed_of q note.entry }
+{
     if note.column >= q.k {
         return Err(No::Column);
     }

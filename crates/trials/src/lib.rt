@@ -44,10 +44,20 @@ fn try_images(group: Group, t: &mut Tally, q: Shape, c: usize, pair: &mut Pair) 
     }
 }
 
+// The first n bytes of each buffer, where they have so many.
+fn first<'a>(pair: &'a mut Pair, n: usize) -> Option<Pair<'a>> {
+    let Pair { one, two, room } = pair;
+    Some(Pair {
+        one: one.get_mut(..n)?,
+        two: two.get_mut(..n)?,
+        room: room.get_mut(..n)?,
+    })
+}
+
 // The same on the first n bytes of each buffer; buffers that are too short count as a difference.
 fn try_within(group: Group, t: &mut Tally, q: Shape, c: usize, n: usize, pair: &mut Pair) {
-    match pair.first(n) {
-        Some(mut first) => try_images(group, t, q, c, &mut first),
+    match first(pair, n) {
+        Some(mut within) => try_images(group, t, q, c, &mut within),
         None => t.add(1),
     }
 }
