@@ -9,7 +9,6 @@ use lib.ListN.{length, get_or, take, drop}
 use borrow.Author.Tests.{lt-ltb}
 use Rattle.std.specs.Prelude.{Result, Ok}
 use Rattle.laws.proofs.Part.{length_part, get_or_part}
-use Rattle.laws.proofs.Patch.{patch_all}
 use Rattle.laws.proofs.Tab.{length_tab, get_or_tab}
 use Rattle.laws.specs.Left.{Left, Leaves}
 use Rattle.laws.specs.Number.{put32}
@@ -30,7 +29,7 @@ use Rattle.write.specs.Steps.{Placed, settled}
 use Rattle.away.proofs.Back.{comes_back}
 use Rattle.away.proofs.Empty.{difference_there}
 use Rattle.away.specs.Away.{away_written, away_judged}
-use Rattle.away.specs.Steps.{Away, restored_in, Back, AwayPlaced}
+use Rattle.away.specs.Steps.{Away, restored_in, AwayPlaced}
 use Rattle.write.specs.declared.Accepted.{Accepted}
 use Rattle.write.specs.declared.Refused.{Refused}
 
@@ -45,22 +44,9 @@ there_placed s u spot v n x e h P =
 
 -- ---- a strip of a lost one
 
--- the bytes held: a copy h of the strip, in the place of k
-pub holds : (s k h : List ℕ) (at : ℕ) → at + length k ≤ length s → h ≡ put k 0 (take (at + length k - at) (drop at s)) → h ≡ part s at (length k)
-unfolding part
-holds s k h at l e =
-    let z : at + length k - at ≡ length k = omega arith in
-    let p : List ℕ = take (length k) (drop at s) in
-    let w : length p ≡ length k = length_part s at (length k) l in
-    e ∙ ap (λ (n : ℕ). put k 0 (take n (drop at s))) z
-    ∙ patch_all k (put k 0 p) p (λ x. get_or p x 0) (subst (λ (n : ℕ). Patched k (put k 0 p) 0 n (λ x. get_or p x 0)) w (put_patched k p 0 (omega arith))) w (λ x h. refl)
-
 module _ (s : List ℕ) (spot : Spot) (v : List ℕ) (A : Away s spot v) where
-  pub strip_ends : (at : ℕ) (k : List ℕ) → at ≡ spot_at spot → length k ≡ spot.q.b → at + length k ≤ length s
-  strip_ends at k c l = omega (arith, A.target.accepted.len, strip_in spot.q spot.column spot.row A.target.column A.target.row, parity_in spot.q)
-
-  pub held_width : (at : ℕ) (k h : List ℕ) → at ≡ spot_at spot → length k ≡ spot.q.b → h ≡ part s at (length k) → length h ≡ spot.q.b
-  held_width at k h c l y = ap length y ∙ length_part s at (length k) (strip_ends at k c l) ∙ l
+  pub strip_ends : (at : ℕ) → at ≡ spot_at spot → at + spot.q.b ≤ length s
+  strip_ends at c = omega (arith, A.target.accepted.len, strip_in spot.q spot.column spot.row A.target.column A.target.row, parity_in spot.q)
 
   module _ (u : List ℕ) (g : u ≡ restored_in s spot) where
     o : List ℕ
@@ -76,7 +62,7 @@ module _ (s : List ℕ) (spot : Spot) (v : List ℕ) (A : Away s spot v) where
 
     old_step : Patched s u (spot_at spot) (length o) (λ x. get_or o x 0)
     unfolding o restored_in
-    old_step = rw g (put_patched s o (spot_at spot) (omega (arith, width, strip_ends (spot_at spot) o refl width)))
+    old_step = rw g (put_patched s o (spot_at spot) (omega (arith, width, strip_ends (spot_at spot) refl)))
 
     pub old_target : Target u spot v
     old_target = record {
@@ -87,13 +73,16 @@ module _ (s : List ℕ) (spot : Spot) (v : List ℕ) (A : Away s spot v) where
       width = A.target.width;
     }
 
-    pub lost_placed : is_lost spot.lost spot.column ≡ true → (at : ℕ) (k h z : List ℕ) (n : ℕ) → at ≡ spot_at spot → length k ≡ spot.q.b → h ≡ part s at (length k) → Back u z spot v h n → AwayPlaced s z spot v n
-    lost_placed e at k h z n c l y B =
-        let f : h ≡ part s (spot_at spot) spot.q.b = y ∙ ap₂ (part s) c l in
-        let j : spot_at spot + spot.q.b ≤ length s = omega (arith, strip_ends (spot_at spot) k refl l) in
+    -- the new strip placed there, then the bytes h that s held
+    pub lost_placed : is_lost spot.lost spot.column ≡ true → (at : ℕ) (h z y : List ℕ) (n : ℕ) → at ≡ spot_at spot → h ≡ take (at + spot.q.b - at) (drop at s) → Placed u z spot v n → y ≡ put z at h → AwayPlaced s y spot v n
+    unfolding part
+    lost_placed e at h z y n c k P l =
+        let w : at + spot.q.b - at ≡ spot.q.b = omega arith in
+        let f : h ≡ part s (spot_at spot) spot.q.b = k ∙ ap₂ (λ (a b : ℕ). take a (drop b s)) w c in
+        let j : spot_at spot + spot.q.b ≤ length s = strip_ends (spot_at spot) refl in
         record {
-          counted = B.counted;
-          bytes = B.bytes
+          counted = P.counted;
+          bytes = l ∙ ap₂ (λ (x : List ℕ) (a : ℕ). put x a h) P.bytes c
               ∙ comes_back s u spot.q spot.lost spot.column spot.row v o h A.target.accepted A.target.column A.target.row A.target.width width old_byte old_step
               (ap length f ∙ length_part s (spot_at spot) spot.q.b j) (λ x x<. ap (λ (l : List ℕ). get_or l x 0) f ∙ get_or_part s (spot_at spot) spot.q.b x x<) e;
         }

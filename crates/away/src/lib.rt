@@ -1,31 +1,20 @@
 // A write to one data strip while columns are lost.
 #![tactic(auto)]
 
-ghost use Rattle.std.specs.Prelude.{◌≡◌, true, ◌&&◌, ◌+◌, ◌<◌, ◌≤◌, ltb, length};
+ghost use Rattle.std.specs.Prelude.{◌≡◌, true, ◌&&◌, ◌<◌, ltb};
 ghost use Rattle.laws.specs.Left.{Leaves};
-ghost use Rattle.laws.specs.Part.{part};
 ghost use Rattle.stripe.specs.Layout.{revision_of};
 ghost use Rattle.stripe.specs.Params.{Admitted};
 ghost use Rattle.pattern.specs.Pattern.{is_lost, pattern_fits};
 ghost use Rattle.rebuild.specs.Inner.{StripLost};
 ghost use Rattle.revision.specs.Revision.{judged};
-ghost use Rattle.present.specs.Steps.{Target};
 ghost use Rattle.away.specs.Away.{away_judged, away_of};
-ghost use Rattle.away.specs.Steps.{Away, Lent, restored_in, Back, AwayPlaced};
+ghost use Rattle.away.specs.Steps.{Away, restored_in, AwayPlaced};
 
 use present::Spot;
 use refusal::Refusal;
 use stripe::Params;
 use write::{Accepted, Refused};
-
-// Copies the strip at a place.
-fn hold(image: &[u8], at: usize, held: &mut [u8])
-    requires { at + length held.old ≤ length image.now }
-    ensures { held.new ≡ part image.now at (length held.old) }
-{
-    let end = at + held.len();
-    engine::copy_in(held, 0, &image[at..end]);
-}
 
 // Puts the strip of a lost data column, as a rebuild would have it, in its place, by way of a lent strip.
 #[tactic(auto, unfolding(crate::specs::Steps::restored_in))]
@@ -37,36 +26,22 @@ fn restore_in(image: &mut [u8], spot: Spot, old: &mut [u8])
     engine::copy_in(image, spot.at(), old);
 }
 
-// Adds the difference of a new strip to present parity and puts the held bytes in its place; gives the count of strips added to.
-fn place_back(image: &mut [u8], spot: Spot, strip: &[u8], held: &[u8]) -> u64
-    requires { Target image.old spot strip.now × (length held.now ≡ spot.q.b) }
-    ensures { Back image.old image.new spot strip.now held.now result }
-{
-    let count = write::place(image, spot, strip);
-    engine::copy_in(image, spot.at(), held);
-    count
-}
-
-// Adds the difference of a new strip of a lost column to present parity, by way of two lent strips; gives the count of strips added to. The restored
-// strip stands in the image meanwhile; then come back the bytes that the column held.
-fn place_by(image: &mut [u8], spot: Spot, strip: &[u8], held: &mut [u8], old: &mut [u8]) -> u64
-    requires { Away image.old spot strip.now × (is_lost spot.lost spot.column ≡ true) × Lent spot.q held.old old.old }
-    ensures { AwayPlaced image.old image.new spot strip.now result }
-{
-    hold(image, spot.at(), held);
-    restore_in(image, spot, old);
-    place_back(image, spot, strip, held)
-}
-
-// The same by way of buffers of its own.
+// Adds the difference of a new strip of a lost column to present parity; gives the count of strips added to. The restored strip stands in the image
+// meanwhile; then come back the bytes that the column held.
 fn place_lost(image: &mut [u8], spot: Spot, strip: &[u8]) -> u64
     requires { Away image.old spot strip.now × (is_lost spot.lost spot.column ≡ true) }
     ensures { AwayPlaced image.old image.new spot strip.now result }
 {
     let b = spot.q.b;
-    let mut held = Params::blank_strip();
+    let at = spot.at();
     let mut old = Params::blank_strip();
-    place_by(image, spot, strip, &mut held[0..b], &mut old[0..b])
+    let mut buffer = Params::blank_strip();
+    let held = &mut buffer[0..b];
+    held.copy_from_slice(&image[at..at + b]);
+    restore_in(image, spot, &mut old[0..b]);
+    let count = write::place(image, spot, strip);
+    engine::copy_in(image, at, held);
+    count
 }
 
 // Puts a strip in place, where its column is present, and adds its difference to present parity; gives the count of strips added to.

@@ -1,7 +1,7 @@
 // A difference added to the strips of present parity columns that a data strip touches.
 #![tactic(auto)]
 
-ghost use Rattle.std.specs.Prelude.{◌≡◌, ◌<◌, ◌^◌};
+ghost use Rattle.std.specs.Prelude.{◌≡◌, ◌<◌, ◌≤◌, ◌^◌};
 ghost use Rattle.stripe.specs.Layout.{rows, strip_at};
 ghost use Rattle.stripe.specs.Params.{Admitted};
 ghost use Rattle.block.specs.Touches.{touch_word};
@@ -23,7 +23,7 @@ impl Spot {
     // Where the strip starts.
     pub fn at(self) -> usize
         requires { Admitted self.q × (self.column < self.q.k) × (self.row < rows self.q) }
-        ensures { result ≡ strip_at self.q self.column self.row }
+        ensures { (result ≡ strip_at self.q self.column self.row) × (result ≤ 2000000) }
     {
         self.q.strip_at(self.column, self.row)
     }

@@ -50,23 +50,15 @@ fn differ(image: &[u8], at: usize, strip: &[u8], out: &mut [u8])
     }
 }
 
-// Adds the difference that a new strip makes to present parity, by way of a lent strip; gives the count of strips added to.
-fn update_by(image: &mut [u8], spot: Spot, strip: &[u8], diff: &mut [u8]) -> u64
-    requires { Target image.old spot strip.now × (length diff.old ≡ spot.q.b) }
-    ensures { Moved image.old image.new spot strip.now result }
-{
-    differ(image, spot.at(), strip, diff);
-    present::move_parity(image, spot, diff)
-}
-
-// The same by way of a buffer of its own.
+// Adds the difference that a new strip makes to present parity; gives the count of strips added to.
 fn update_parity(image: &mut [u8], spot: Spot, strip: &[u8]) -> u64
     requires { Target image.old spot strip.now }
     ensures { Moved image.old image.new spot strip.now result }
 {
-    let b = spot.q.b;
     let mut buffer = Params::blank_strip();
-    update_by(image, spot, strip, &mut buffer[0..b])
+    let diff = &mut buffer[0..spot.q.b];
+    differ(image, spot.at(), strip, diff);
+    present::move_parity(image, spot, diff)
 }
 
 // Puts a strip in place and adds its difference to present parity; gives the count of strips added to.
