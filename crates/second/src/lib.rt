@@ -142,8 +142,8 @@ pub fn placed(q: Shape, note: Note) -> Result<(), No>
     Ok(())
 }
 
-// The answer to the base of a write to a data column.
-pub fn timely(image: &[u8], q: Shape, note: Note) -> Result<(), Unwritten> {
+// The refusal of a base that is not the revision of the data column that is written.
+pub fn untimely(image: &[u8], q: Shape, note: Note) -> Result<(), Unwritten> {
     judged(number32(image, revision_at(note.column)), note.base, q)
 }
 
@@ -174,6 +174,6 @@ pub fn accept(image: &mut [u8], q: Shape, note: Note) -> Written {
 pub fn write(image: &mut [u8], note: Note, slip: Option<Slip>) -> Result<Written, Unwritten> {
     let q = read(image, slip)?;
     placed(q, note)?;
-    timely(image, q, note)?;
+    untimely(image, q, note)?;
     Ok(accept(image, q, note))
 }

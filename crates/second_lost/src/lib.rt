@@ -1,7 +1,7 @@
 // The second implementation's rebuild, restore, show and write while columns are lost, by elimination on bits.
 #![tactic(auto)]
 
-use second::{accept, add_columns, placed, set_parity, timely};
+use second::{accept, add_columns, placed, set_parity, untimely};
 use second_ground::{No, Note, Shape, Slip, Unwritten, Written, read, touched};
 use total::{add_within, bit, copy, nth_one, one_at, ones, ones_below, part, part_mut};
 
@@ -266,7 +266,7 @@ fn writable(image: &[u8], q: Shape, lost: u64, note: Note) -> Result<(), Unwritt
         return Err(Unwritten::from(No::Column));
     }
     placed(q, note)?;
-    let time = timely(image, q, note);
+    let time = untimely(image, q, note);
     if many(q, lost) && (time.is_ok() || !q.makes(Slip::Late)) {
         return Err(Unwritten::from(No::Many));
     }
