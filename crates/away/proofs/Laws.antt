@@ -8,6 +8,8 @@ use native.Mathlib.Omega.{arith}
 use lib.ListN.{length, get_or, take, drop}
 use borrow.Author.Tests.{lt-ltb}
 use Rattle.std.specs.Prelude.{Result, Ok}
+use borrow.Rule.Slice.PartMut.{put_mid}
+use Rattle.laws.proofs.Mid.{mid_put}
 use Rattle.laws.proofs.Part.{length_part, get_or_part}
 use Rattle.laws.proofs.Tab.{length_tab, get_or_tab}
 use Rattle.laws.specs.Left.{Left, Leaves}
@@ -47,6 +49,13 @@ there_placed s u spot v n x e h P =
 module _ (s : List ℕ) (spot : Spot) (v : List ℕ) (A : Away s spot v) where
   pub strip_ends : (at : ℕ) → at ≡ spot_at spot → at + spot.q.b ≤ length s
   strip_ends at c = omega (arith, A.target.accepted.len, strip_in spot.q spot.column spot.row A.target.column A.target.row, parity_in spot.q)
+
+  -- the restored strip k swapped into its place
+  pub swapped : (at : ℕ) (o k : List ℕ) → at ≡ spot_at spot → o ≡ tab spot.q.b (whole_byte s spot.q spot.lost spot.column spot.row) → k ≡ o → put_mid at (at + spot.q.b - at) s k ≡ restored_in s spot
+  unfolding restored_in
+  swapped at o k c f g =
+      let w : at + spot.q.b - at ≡ spot.q.b = omega arith in
+      mid_put s at (at + spot.q.b - at) k (ap length (g ∙ f) ∙ length_tab spot.q.b (whole_byte s spot.q spot.lost spot.column spot.row) ∙ sym w) ∙ ap₂ (put s) c (g ∙ f)
 
   module _ (u : List ℕ) (g : u ≡ restored_in s spot) where
     o : List ℕ

@@ -6,39 +6,27 @@ ghost use Rattle.laws.specs.Left.{Leaves};
 ghost use Rattle.stripe.specs.Layout.{revision_of};
 ghost use Rattle.stripe.specs.Params.{Admitted};
 ghost use Rattle.pattern.specs.Pattern.{is_lost, pattern_fits};
-ghost use Rattle.rebuild.specs.Inner.{StripLost};
 ghost use Rattle.revision.specs.Revision.{judged};
 ghost use Rattle.away.specs.Away.{away_judged, away_of};
-ghost use Rattle.away.specs.Steps.{Away, restored_in, AwayPlaced};
+ghost use Rattle.away.specs.Steps.{Away, AwayPlaced};
 
 use present::Spot;
 use refusal::Refusal;
 use stripe::Params;
 use write::{Accepted, Refused};
 
-// Puts the strip of a lost data column, as a rebuild would have it, in its place, by way of a lent strip.
-#[tactic(auto, unfolding(crate::specs::Steps::restored_in))]
-fn restore_in(image: &mut [u8], spot: Spot, old: &mut [u8])
-    requires { StripLost image.old spot.q spot.lost spot.column spot.row old.old × (spot.column < spot.q.k) }
-    ensures { image.new ≡ restored_in image.old spot }
-{
-    rebuild::restore_strip(image, spot.q, spot.lost, spot.column, spot.row, old);
-    engine::copy_in(image, spot.at(), old);
-}
-
-// Adds the difference of a new strip of a lost column to present parity; gives the count of strips added to. The restored strip stands in the image
-// meanwhile; then come back the bytes that the column held.
+// Adds the difference of a new strip of a lost column to present parity; gives the count of strips added to. The strip as a rebuild would have it
+// stands in the image meanwhile; then come back the bytes that the column held.
 fn place_lost(image: &mut [u8], spot: Spot, strip: &[u8]) -> u64
     requires { Away image.old spot strip.now × (is_lost spot.lost spot.column ≡ true) }
     ensures { AwayPlaced image.old image.new spot strip.now result }
 {
     let b = spot.q.b;
     let at = spot.at();
-    let mut old = Params::blank_strip();
     let mut buffer = Params::blank_strip();
     let held = &mut buffer[0..b];
-    held.copy_from_slice(&image[at..at + b]);
-    restore_in(image, spot, &mut old[0..b]);
+    rebuild::restore_strip(image, spot.q, spot.lost, spot.column, spot.row, held);
+    image[at..at + b].swap_with_slice(held);
     let count = write::place(image, spot, strip);
     engine::copy_in(image, at, held);
     count
