@@ -3,7 +3,6 @@
 use Rattle.std.specs.Prelude.{ℕ, ◌+◌, List, ltb, eqb, length, Result, Ok, Err}
 use Rattle.laws.specs.Choose.{choose}
 use Rattle.laws.specs.Left.{Left}
-use Rattle.refusal.specs.Number.{number_of}
 use Rattle.refusal.specs.declared.Refusal.TheVariants.{Column, Room}
 use Rattle.stripe.specs.declared.Params.{Params}
 use Rattle.stripe.specs.Reading.{read_of}

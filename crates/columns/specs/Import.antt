@@ -5,7 +5,6 @@ use Rattle.std.specs.Prelude.{ℕ, ◌+◌, List, eqb, length, Result, Ok, Err}
 use Rattle.laws.specs.Bit.{bit, pack}
 use Rattle.laws.specs.Choose.{choose}
 use Rattle.laws.specs.Left.{Left}
-use Rattle.refusal.specs.Number.{number_of}
 use Rattle.refusal.specs.declared.Refusal.TheVariants.{Room}
 use Rattle.stripe.specs.Layout.{image_length}
 use Rattle.stripe.specs.declared.Params.{Params}

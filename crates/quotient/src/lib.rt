@@ -51,7 +51,7 @@ fn differ(bad: u8, s: &[u8], row: &[u8], sum: &[u8; LANES]) -> u8
     ensures { Shows bad result (RowStands s.now row.now sum.now (length s.now)) }
 {
     let mut all = bad;
-    // Stays: row and sum by index; a zip of the three takes a check at p17 k10 r4 from 332,567 instructions to 559,431.
+    // Stays: row and sum by index; a zip of the three takes a check, in a build of the walks alone, from 332,567 instructions to 559,431.
     for (x, o) in s.iter().enumerate() {
         all |= *o ^ (row[x] ^ sum[x]);
     }

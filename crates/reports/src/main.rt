@@ -29,6 +29,7 @@ fn one(rt: &(impl Print + Eprint + Files), path: &[u8]) -> io::Result<()> {
 
 fn main(rt: HostRuntime) -> io::Result<()> {
     let mut path = [0u8; PATH_ROOM];
+    // Stays: fixed memory; the runtime gives arguments by number alone, and `env::args` puts them on a heap.
     for i in 1..usize::MAX {
         match rt.arg(i, &mut path) {
             Ok(n) => one(&rt, &path[..n])?,
