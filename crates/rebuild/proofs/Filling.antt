@@ -12,6 +12,7 @@ use lib.ListN.{get_or, length, take}
 use lib.Seq.{length-take-le}
 use borrow.Author.Tests.{le-ltb, lt-ltb}
 use borrow.Rule.Slice.PartMut.{put_mid}
+use Rattle.laws.proofs.Mid.{mid_put}
 use Rattle.laws.proofs.Patch.{patched}
 use Rattle.laws.proofs.Rows.{row_in}
 use Rattle.laws.proofs.Tab.{is_tab}
@@ -141,10 +142,12 @@ module _ (s : List ℕ) (q : Params) (m n : ℕ) (h : n < q.k + q.r) where
             ∙ words_right t q m P.image.admitted few n v x a
             ∙ sym (whole_byte_agrees s t q m D.agrees x i n v h l))
 
-    -- from a strip o, c was worked out and put at x
-    pub column_more : is_lost m n ≡ true → (o c t' : List ℕ) (x : ℕ) → length o ≡ length out → c ≡ tab (length o) (taken q.p t (length o) v ats ws) → StripPlace q n v x → t' ≡ put t x c
-        → ColumnFilled s t' q m n (v + 1)
-    column_more a o c t' x e f y g = column_step t' a (strip_put t q n v ats ws o (e ∙ P.room) image.len c f x y t' g)
+    -- from a strip o, c was worked out, and copied as d into the part of t at x
+    pub column_more : is_lost m n ≡ true → (o c d : List ℕ) (x : ℕ) → length o ≡ length out → c ≡ tab (length o) (taken q.p t (length o) v ats ws) → StripPlace q n v x → d ≡ c
+        → ColumnFilled s (put_mid x (x + length c - x) t d) q m n (v + 1)
+    column_more a o c d x e f y g =
+        let k : length d ≡ x + length c - x = omega (arith, ap length g) in
+        column_step _ a (strip_put t q n v ats ws o (e ∙ P.room) image.len c f x y _ (mid_put t x (x + length c - x) d k ∙ ap (put t x) g))
 
 -- ---- all columns
 
