@@ -35,10 +35,6 @@ pub lines_more : (line : ℕ → List ℕ) (i : ℕ) (v : List ℕ) → v ≡ li
 unfolding lines
 lines_more line i v e = rw (add-one i, e) refl
 
--- all are in where i has come to k
-pub lines_all : (line : ℕ → List ℕ) (i k : ℕ) → i ≤ k → k ≤ i → lines i line ≡ lines k line
-lines_all line i k h l = let e : i ≡ k = omega arith in rw e refl
-
 lines_same : (n : ℕ) (f g : ℕ → List ℕ) → ((i : ℕ) → i < n → f i ≡ g i) → lines n f ≡ lines n g
 unfolding lines
 lines_same zero f g h = refl
