@@ -14,7 +14,7 @@ loop-i-preserved c =
 pub returns-then-from-src : goal.returns-then-from-src
 returns-then-from-src c =
     copy_end _ _ _ _ _ c.requires refl
-    (copy_more _ _ _ _ _ _ _ _ _ (omega arith) c.requires (omega arith) (omega arith) c.copy_from_slice-then-from-src.ensures.after (patch_end _ _ _ _ _ _ c.loop-i.invariant (omega (arith, c.loop-i.auto.i-end)) (omega (arith, c.loop-i-test.false))))
+    (copy_more _ _ _ _ _ _ _ _ _ (omega arith) c.requires (omega arith) (omega arith) c.copy.ensures (patch_end _ _ _ _ _ _ c.loop-i.invariant (omega (arith, c.loop-i.auto.i-end)) (omega (arith, c.loop-i-test.false))))
 
 pub returns-else-from-src : goal.returns-else-from-src
 returns-else-from-src c =
