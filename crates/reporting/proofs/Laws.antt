@@ -1,8 +1,8 @@
 -- Laws of a report that is written.
 -- Assumes nothing.
-use Prim.Native.Nat.{ℕ, zero, suc, ◌+◌, ◌^◌, ◌<◌, ◌≤◌}
+use Prim.Native.Nat.{ℕ, zero, suc, ◌+◌, ◌<◌, ◌≤◌}
 use mathlib.Core.Bool.{Bool, true, false}
-use mathlib.Core.List.{List, ◌∷◌, ◌++◌}
+use mathlib.Core.List.{List, ◌++◌, append_assoc}
 use mathlib.Core.Path.{◌≡◌, refl, sym, ap, ap₂, ◌∙◌}
 use native.Mathlib.Decide.{dec_lt}
 use native.Mathlib.Numerals.{add-one}
@@ -14,52 +14,43 @@ use borrow.Author.Tests.{lt-ltb, le-ltb}
 use Rattle.std.specs.Prelude.{Result, Ok, Err}
 use Rattle.laws.specs.Choose.{choose}
 use Rattle.laws.specs.Number.{u32}
-use Rattle.refusal.specs.Number.{number_of}
 use Rattle.refusal.specs.declared.Refusal.{Refusal}
 use Rattle.refusal.specs.declared.Refusal.TheVariants.{Long}
-use Rattle.std.specs.Fmt.{decimal}
 use Rattle.stripe.proofs.Frame.{read_image}
 use Rattle.stripe.specs.Layout.{revision_at}
 use Rattle.stripe.specs.Reading.{read_of}
 use Rattle.stripe.specs.declared.Params.{Params}
 use Rattle.parity.proofs.Rightness.{check_at}
 use Rattle.parity.specs.Answer.{parity_right, wrong_parities, check_of, check_read}
-use Rattle.texts.proofs.Digits.{decimal_text}
 use Rattle.texts.specs.Text.{text, spaced, bytes, line_end}
 use Rattle.reporting.specs.Inner.{is_clear}
 use Rattle.reporting.specs.Report.{refused_line, verdict, stripe_line, lines, data_line, parity_line, read_lines, lines_of, report_of}
 
 -- ---- lines one behind the other
 
-pub lines_more : (line : ℕ → List ℕ) (i : ℕ) (v : List ℕ) → v ≡ line i → lines i line ++ v ≡ lines (i + 1) line
-unfolding lines
-lines_more line i v e = rw (add-one i, e) refl
-
 lines_same : (n : ℕ) (f g : ℕ → List ℕ) → ((i : ℕ) → i < n → f i ≡ g i) → lines n f ≡ lines n g
 unfolding lines
 lines_same zero f g h = refl
 lines_same (suc n) f g h = ap₂ (λ (a b : List ℕ). a ++ b) (lines_same n f g (λ i l. h i (omega arith))) (h n (omega arith))
 
--- ---- a line of each kind
+-- ---- a line of each kind; s is a report so far
 
 -- v is the revision that was read at its place in the image
-pub data_text : (m : List ℕ) (i at v : ℕ) → i < 2 ^ 64 → v < 2 ^ 64 → at ≡ revision_at i → v ≡ u32 m at
-    → bytes "data " ++ (decimal i ++ (32 ∷ (decimal v ++ line_end))) ≡ data_line m i
-unfolding data_line
-data_text m i at v h l e f = rw (decimal_text i h, decimal_text v l, f, e) refl
+pub data_more : (m s : List ℕ) (i at v : ℕ) → at ≡ revision_at i → v ≡ u32 m at
+    → (((s ++ lines i (data_line m)) ++ bytes "data") ++ spaced (text i)) ++ (spaced (text v) ++ line_end) ≡ s ++ lines (i + 1) (data_line m)
+unfolding lines data_line
+data_more m s i at v e f = rw (add-one i, f, e) (simp append_assoc)
 
 -- v tells whether parity j is right
-pub parity_text : (right : ℕ → Bool) (j : ℕ) (v : List ℕ) → j < 2 ^ 64 → v ≡ verdict (right j)
-    → bytes "parity " ++ (decimal j ++ (32 ∷ (v ++ line_end))) ≡ parity_line right j
-unfolding parity_line
-parity_text right j v h e = rw (decimal_text j h, e) refl
+pub parity_more : (right : ℕ → Bool) (s v : List ℕ) (j : ℕ) → v ≡ verdict (right j)
+    → (((((s ++ lines j (parity_line right)) ++ bytes "parity") ++ spaced (text j)) ++ bytes " ") ++ v) ++ line_end ≡ s ++ lines (j + 1) (parity_line right)
+unfolding lines parity_line
+parity_more right s v j e = rw (add-one j, e) (simp append_assoc)
 
-pub refused_text : (e : Refusal) (m : ℕ) → m < 2 ^ 64 → m ≡ number_of e → bytes "refused " ++ (decimal m ++ line_end) ≡ refused_line e
-refused_text e m h f = rw (decimal_text m h, f) refl
-
-pub stripe_text : (q : Params) → q.p < 2 ^ 64 → q.k < 2 ^ 64 → q.r < 2 ^ 64 → q.b < 2 ^ 64
-    → bytes "stripe " ++ (decimal q.p ++ (32 ∷ (decimal q.k ++ (32 ∷ (decimal q.r ++ (32 ∷ (decimal q.b ++ line_end))))))) ≡ stripe_line q
-stripe_text q h l m o = rw (decimal_text q.p h, decimal_text q.k l, decimal_text q.r m, decimal_text q.b o) refl
+-- v is the word of a verdict
+pub verdict_short : (right : Bool) (v : List ℕ) → v ≡ verdict right → length v ≤ 5
+verdict_short true v e = omega (arith, ap length e)
+verdict_short false v e = omega (arith, ap length e)
 
 -- ---- after reading: v is what the reading gave
 
@@ -69,8 +60,8 @@ module _ (s : List ℕ) (v : Result Params Refusal) (a : v ≡ read_of s) where
   lines_refused e g = rw (← a, g) refl
 
   module _ (q : Params) (f : v ≡ Ok q) where
-    pub parity_few : q.r ≤ 61
-    parity_few = let i = read_image s q v a f in omega (arith, i.admitted.fits, i.admitted.p_high)
+    pub columns_few : q.k + q.r ≤ 61
+    columns_few = let i = read_image s q v a f in omega (arith, i.admitted.fits, i.admitted.p_high)
 
     checked : (c : Result ℕ Refusal) → c ≡ check_of s → c ≡ Ok (wrong_parities s q)
     unfolding check_of check_read
@@ -98,10 +89,12 @@ module _ (s : List ℕ) (v : Result Params Refusal) (a : v ≡ read_of s) where
         lines_same q.r (parity_line (is_clear w)) (parity_line (parity_right s q))
         (λ j k. ap (λ (b : Bool). bytes "parity" ++ (spaced (text j) ++ (spaced (verdict b) ++ line_end))) (ap (λ (u : ℕ). is_clear u j) (found w c g h) ∙ clear_right j k))
 
-    pub lines_told : (w : ℕ) (c : Result ℕ Refusal) → c ≡ check_of s → c ≡ Ok w → (t : List ℕ) → t ≡ stripe_line q
-        → t ++ (lines q.k (data_line s) ++ lines q.r (parity_line (is_clear w))) ≡ lines_of s
+    -- x, y and z are the report with the line of the parameters, then those of data columns, then those of parities
+    pub lines_told : (w : ℕ) (c : Result ℕ Refusal) → c ≡ check_of s → c ≡ Ok w → (x y z : List ℕ) → x ≡ stripe_line q → y ≡ x ++ lines q.k (data_line s)
+        → z ≡ y ++ lines q.r (parity_line (is_clear w)) → z ≡ lines_of s
     unfolding lines_of read_lines
-    lines_told w c g h t e = rw (e, parities_told w c g h, ← a, f) refl
+    lines_told w c g h x y z i j k =
+        rw (k, j, i, parities_told w c g h, ← a, f) (append_assoc (stripe_line q) (lines q.k (data_line s)) (lines q.r (parity_line (parity_right s q))))
 
 -- ---- LONG comes first
 

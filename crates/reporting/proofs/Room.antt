@@ -1,9 +1,9 @@
 -- A report fits the room that is kept for it.
 -- Assumes nothing.
-use Prim.Native.Nat.{ℕ, zero, suc, ◌*◌, ◌≤◌}
+use Prim.Native.Nat.{ℕ, zero, suc, ◌+◌, ◌*◌, ◌≤◌}
 use mathlib.Core.Bool.{Bool, true, false}
 use mathlib.Core.List.{List, ◌++◌}
-use mathlib.Core.Path.{◌≡◌, refl}
+use mathlib.Core.Path.{◌≡◌, refl, ap}
 use native.Mathlib.Decide.{dec_lt}
 use native.Mathlib.Omega.{arith}
 use lib.ListN.{length, length-append}
@@ -25,7 +25,7 @@ use Rattle.reporting.proofs.Laws.{report_long, report_lines}
 refused_fits : (e : Refusal) → length (refused_line e) ≤ line_room
 refused_fits e = simp length-append (omega (arith, text_short (number_of e)))
 
-stripe_fits : (q : Params) → length (stripe_line q) ≤ line_room
+pub stripe_fits : (q : Params) → length (stripe_line q) ≤ line_room
 stripe_fits q = simp length-append (omega (arith, text_short q.p, text_short q.k, text_short q.r, text_short q.b))
 
 data_fits : (s : List ℕ) (i : ℕ) → length (data_line s i) ≤ line_room
@@ -44,6 +44,13 @@ lines_fit : (n : ℕ) (line : ℕ → List ℕ) → ((i : ℕ) → length (line 
 unfolding lines
 lines_fit zero line h = omega arith
 lines_fit (suc n) line h = omega (arith, length-append (lines n line) (line n), lines_fit n line h, h n)
+
+-- u is a report t with lines behind it
+pub data_fit : (s t u : List ℕ) (i : ℕ) → u ≡ t ++ lines i (data_line s) → length u ≤ length t + i * line_room
+data_fit s t u i e = omega (arith, ap length e, length-append t (lines i (data_line s)), lines_fit i (data_line s) (data_fits s))
+
+pub parities_fit : (right : ℕ → Bool) (t u : List ℕ) (j : ℕ) → u ≡ t ++ lines j (parity_line right) → length u ≤ length t + j * line_room
+parities_fit right t u j e = omega (arith, ap length e, length-append t (lines j (parity_line right)), lines_fit j (parity_line right) (parity_fits right))
 
 read_fits : (s : List ℕ) (v : Result Params Refusal) → v ≡ read_of s → length (read_lines s v) ≤ report_room
 unfolding read_lines

@@ -1,19 +1,19 @@
 // The report of an image: what it is, the revision of each data column, each parity right or wrong.
-// What the report program writes is put together in a buffer of fixed room, and written at once.
+// It is put together in a buffer of fixed room, which every report fits, and written at once.
 #![tactic(auto)]
 
-ghost use Rattle.std.specs.Prelude.{◌≡◌, ◌<◌, ◌≤◌, length, IfSome, OnOk, Some};
-ghost use Rattle.std.specs.Fmt.{WritesOnOk};
+ghost use Rattle.std.specs.Prelude.{◌≡◌, ◌+◌, ◌*◌, ◌++◌, ◌<◌, ◌≤◌, [], length, IfSome, OnOk};
 ghost use Rattle.std.specs.Io.KnownBytes.{Appends};
 ghost use Rattle.stripe.specs.Reading.{Image};
-ghost use Rattle.reporting.specs.Inner.{is_clear};
-ghost use Rattle.reporting.specs.Report.{verdict, lines, data_line, parity_line, lines_of, report_of};
+ghost use Rattle.reporting.specs.Inner.{line_room, report_room, is_clear};
+ghost use Rattle.reporting.specs.Report.{refused_line, verdict, stripe_line, lines, data_line, parity_line, lines_of, report_of};
 
-use arrayvec::ArrayVec;
+use arrayvec::ArrayString;
 use refusal::Refusal;
+use std::io;
 use std::io::{Read, Write};
-use std::{fmt, io};
 use stripe::Params;
+use texts::{push_last, push_number};
 
 // The longest input that is taken.
 const LONGEST: usize = 65536;
@@ -21,19 +21,45 @@ const LONGEST: usize = 65536;
 // Room for a line: a word, four numbers of at most 20 digits with a space before each, and the line's end are 91 bytes.
 const LINE: usize = 96;
 
-// Room for a report: a line of the parameters, and one for each of k + r columns, which are at most p. That each report fits is `report_fits`.
+// Room for a report: a line of the parameters, and one for each of k + r columns, which are at most p.
 const ROOM: usize = (1 + Params::LARGEST_PRIME) * LINE;
 
-// Writes a line for each data column.
-fn write_data<W: fmt::Write>(f: &mut fmt::Formatter<W>, image: &[u8], q: Params) -> fmt::Result
-    requires { Image image.now q }
-    ensures { WritesOnOk W.write_str_gives f.old result (lines q.k (data_line image.now)) f.new }
+type Report = ArrayString<ROOM>;
+
+// The report of an input that is refused.
+fn refused(e: Refusal) -> Report
+    ensures { result.bytes ≡ refused_line e }
+{
+    let mut report = Report::new();
+    report.push_str("refused");
+    push_last(&mut report, e.number());
+    report
+}
+
+// Begins a report with the line of the parameters.
+fn push_stripe(report: &mut Report, q: Params)
+    requires { report.old.bytes ≡ [] }
+    ensures { report.new.bytes ≡ stripe_line q }
+{
+    let Params { p, k, r, b } = q;
+    report.push_str("stripe");
+    push_number(report, p as u64);
+    push_number(report, k as u64);
+    push_number(report, r as u64);
+    push_last(report, b as u64);
+}
+
+// Puts a line for each data column behind a report.
+fn push_data(report: &mut Report, image: &[u8], q: Params)
+    requires { Image image.now q × (length report.old.bytes + q.k * line_room ≤ report_room) }
+    ensures { report.new.bytes ≡ report.old.bytes ++ lines q.k (data_line image.now) }
 {
     for i in 0..q.k {
         let revision = stripe::u32_at(image, q.revision_at(i));
-        writeln!(f, "data {i} {revision}")?;
+        report.push_str("data");
+        push_number(report, i as u64);
+        push_last(report, revision as u64);
     }
-    Ok(())
 }
 
 // Whether parity j is right, as the word of wrong parities has it.
@@ -49,58 +75,52 @@ fn verdict(wrong: u64, j: usize) -> &'static str
     }
 }
 
-// Writes a line for each of r parities.
-fn write_parities<W: fmt::Write>(f: &mut fmt::Formatter<W>, wrong: u64, r: usize) -> fmt::Result
-    requires { r ≤ 61 }
-    ensures { WritesOnOk W.write_str_gives f.old result (lines r (parity_line (is_clear wrong))) f.new }
+// Puts a line for each of r parities behind a report.
+fn push_parities(report: &mut Report, wrong: u64, r: usize)
+    requires { (r ≤ 61) × (length report.old.bytes + r * line_room ≤ report_room) }
+    ensures { report.new.bytes ≡ report.old.bytes ++ lines r (parity_line (is_clear wrong)) }
 {
     for j in 0..r {
-        writeln!(f, "parity {j} {}", verdict(wrong, j))?;
-    }
-    Ok(())
-}
-
-// An image of any length, shown as its report, or as its refusal.
-#[derive(Clone, Copy)]
-struct ImageReport<'a>(&'a [u8]);
-
-impl fmt::Display for ImageReport<'_> {
-    ghost output = { λ x. Some (lines_of x.0.now) };
-
-    fn fmt<W: fmt::Write>(&self, f: &mut fmt::Formatter<W>) -> fmt::Result {
-        let image = self.0;
-        let q = match stripe::read(image) {
-            Ok(q) => q,
-            Err(e) => return writeln!(f, "refused {}", e.number()),
-        };
-        // Check refuses no image that reading accepts.
-        let Ok(wrong) = parity::check(image) else {
-            unreachable!();
-        };
-        writeln!(f, "stripe {} {} {} {}", q.p, q.k, q.r, q.b)?;
-        write_data(f, image, q)?;
-        write_parities(f, wrong, q.r)
+        report.push_str("parity");
+        push_number(report, j as u64);
+        report.push_str(" ");
+        report.push_str(verdict(wrong, j));
+        report.push_str("\n");
     }
 }
 
-// An input of the report program, shown likewise; LONG comes first.
-#[derive(Clone, Copy)]
-struct InputReport<'a>(&'a [u8]);
+// The report of an image of any length, or of its refusal.
+fn image_report(image: &[u8]) -> Report
+    ensures { result.bytes ≡ lines_of image.now }
+{
+    let q = match stripe::read(image) {
+        Ok(q) => q,
+        Err(e) => return refused(e),
+    };
+    // Check refuses no image that reading accepts.
+    let Ok(wrong) = parity::check(image) else {
+        unreachable!();
+    };
+    let mut report = Report::new();
+    push_stripe(&mut report, q);
+    push_data(&mut report, image, q);
+    push_parities(&mut report, wrong, q.r);
+    report
+}
 
-impl fmt::Display for InputReport<'_> {
-    ghost output = { λ x. Some (report_of x.0.now) };
-
-    fn fmt<W: fmt::Write>(&self, f: &mut fmt::Formatter<W>) -> fmt::Result {
-        if self.0.len() > LONGEST {
-            return writeln!(f, "refused {}", Refusal::Long.number());
-        }
-        write!(f, "{}", ImageReport(self.0))
+// The same of an input of the report program; LONG comes first.
+fn input_report(input: &[u8]) -> Report
+    ensures { result.bytes ≡ report_of input.now }
+{
+    if input.len() > LONGEST {
+        return refused(Refusal::Long);
     }
+    image_report(input)
 }
 
 // Writes the report of an image, or its refusal, on standard output.
 pub fn describe(rt: &impl Print, image: &[u8]) -> io::Result<()> {
-    print!(rt; "{}", ImageReport(image))
+    rt.write_all(image_report(image).as_str().as_bytes())
 }
 
 // Writes the report of what a reader gives; one byte above the longest tells LONG.
@@ -109,9 +129,8 @@ pub fn write_report<R: Read, W: Write>(input: &mut R, output: &mut W) -> io::Res
 {
     let mut front = [0u8; LONGEST + 1];
     let n = fronts::read_front(input, &mut front)?;
-    let mut text = ArrayVec::<u8, ROOM>::new();
-    write!(text, "{}", InputReport(&front[..n]))?;
-    output.write_all(text.as_slice())
+    let report = input_report(&front[..n]);
+    output.write_all(report.as_str().as_bytes())
 }
 
 // The same on standard output.

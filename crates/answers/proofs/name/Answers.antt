@@ -3,7 +3,7 @@
 use native.Mathlib.Decide.{dec_lt}
 use Rattle.std.proofs.Common.{◌≡◌, [], arith, subst, sym}
 use Rattle.answers.proofs.Examples.{none_named}
-use Rattle.answers.proofs.Lines.{unnamed}
+use Rattle.answers.proofs.Names.{unnamed}
 use Rattle.answers.specs.Line.{named}
 use Rattle.answers.proofs.name.Goals as goal
 
