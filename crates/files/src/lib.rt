@@ -1,7 +1,7 @@
 // The files of the depot: taken into a buffer, written, looked at again and put in the place of others; and the program's arguments.
 #![tactic(auto)]
 
-ghost use Rattle.std.specs.Prelude.{◌≡◌, ◌≤◌, length, replicate, IfOk, IfSome, IsTrue, OnOk};
+ghost use Rattle.std.specs.Prelude.{◌≡◌, ◌≤◌, length, replicate, take, IfSome, IsTrue, OnOk};
 ghost use Rattle.std.specs.Result.{result_ok};
 ghost use Rattle.std.specs.Io.KnownBytes.{Appends};
 
@@ -72,18 +72,20 @@ pub fn create<R: Files>(rt: &R, path: &[u8]) -> io::Result<R::File> {
     File::create_new(rt, path_text(path)?)
 }
 
-// Reads a file, as much of it as the buffer holds.
-fn read(rt: &impl Files, path: &[u8], buf: &mut [u8]) -> io::Result<usize>
-    ensures { IfOk result (λ n. n ≤ length buf.new) }
+// Reads on until the buffer is full or the file ends; nothing where that failed, and why is said.
+fn fill<R: Read>(rt: &impl Eprint, file: &mut R, path: &[u8], buf: &mut [u8]) -> Option<usize>
+    ensures within { IfSome result (λ n. n ≤ length buf.new) }
+    ensures front { IfSome result (λ n. IfSome (R.remaining file.old) (λ s. take n buf.new ≡ take (length buf.new) s)) }
 {
-    fronts::read_front(&mut open(rt, path)?, buf)
+    told(rt, path, fronts::read_front(file, buf))
 }
 
 // Takes a file, as much of it as the buffer holds; how many bytes, and nothing where that failed.
 pub fn take(rt: &(impl Files + Eprint), path: &[u8], buf: &mut [u8]) -> Option<usize>
     ensures { IfSome result (λ n. n ≤ length buf.new) }
 {
-    told(rt, path, read(rt, path, buf))
+    let mut file = told(rt, path, open(rt, path))?;
+    fill(rt, &mut file, path, buf)
 }
 
 // Takes the files that a line names from a word on, one after another, as much of them as the buffer holds.
