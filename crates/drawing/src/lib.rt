@@ -1,7 +1,7 @@
 // Numbers, shapes, writes and patterns drawn from the number of a case, so that each run has the same ones.
 #![tactic(auto)]
 
-use second_ground::{HALF_CIRCLE, Note, PRIMES, Shape, Slip};
+use second_ground::{HALF_CIRCLE, Note, Shape, Slip};
 use total::{bit, nth_one, one_at, ones, ones_below, part};
 
 // The groups of cases.
@@ -53,6 +53,11 @@ pub fn below(c: usize, what: usize, n: usize) -> usize {
 pub fn seldom(c: usize, what: usize, n: usize) -> bool {
     below(c, what, n) == 0
 }
+
+// The odd primes from 3 to 61: a list of its own, so that a wrong one in the second implementation's shows.
+const PRIMES: [usize; 17] = [
+    3, 5, 7, 11, 13, 17, 19, 23, 29, 31, 37, 41, 43, 47, 53, 59, 61,
+];
 
 // The prime of a case, each in turn.
 pub fn prime_of(c: usize) -> usize {

@@ -105,9 +105,10 @@ impl History {
     // The writes to one column once more: each is to get the answer that it had.
     fn write_column(self, t: &mut Tally, image: &mut [u8], answers: &[Answer], column: usize) {
         for (w, due) in answers.iter().enumerate() {
-            let bytes = self.bytes_of(w);
-            let note = note_of(self.q, self.c, w, &bytes);
-            if note.column == column {
+            // bytes are drawn for these writes alone
+            if note_of(self.q, self.c, w, &[]).column == column {
+                let bytes = self.bytes_of(w);
+                let note = note_of(self.q, self.c, w, &bytes);
                 t.compare(library_write(image, self.way, note), *due);
             }
         }

@@ -93,28 +93,46 @@ pub fn nth_one(w: u64, u: usize) -> usize {
     left.trailing_zeros() as usize
 }
 
-// The number of 16 bits at a place, lowest byte first.
-pub fn number16(s: &[u8], at: usize) -> usize {
-    match part(s, at, 2) {
-        [low, high] => usize::from(u16::from_le_bytes([*low, *high])),
-        _ => 0,
+// The byte at a place.
+fn byte(s: &[u8], at: usize) -> u8 {
+    match s.get(at) {
+        Some(v) => *v,
+        None => 0,
     }
 }
 
-// The number of 32 bits at a place, lowest byte first.
+// The number of 16 bits at a place, lowest byte first; of one that the end cuts, the bytes that lie within.
+pub fn number16(s: &[u8], at: usize) -> usize {
+    let bytes = [byte(s, at), byte(s, at.wrapping_add(1))];
+    usize::from(u16::from_le_bytes(bytes))
+}
+
+// The same of 32 bits.
 pub fn number32(s: &[u8], at: usize) -> u32 {
-    match part(s, at, 4) {
-        [a, b, c, d] => u32::from_le_bytes([*a, *b, *c, *d]),
-        _ => 0,
+    let bytes = [
+        byte(s, at),
+        byte(s, at.wrapping_add(1)),
+        byte(s, at.wrapping_add(2)),
+        byte(s, at.wrapping_add(3)),
+    ];
+    u32::from_le_bytes(bytes)
+}
+
+// Puts bytes at a place, those that lie within.
+fn put(s: &mut [u8], at: usize, bytes: &[u8]) {
+    for (i, v) in bytes.iter().enumerate() {
+        if let Some(x) = s.get_mut(at.wrapping_add(i)) {
+            *x = *v;
+        }
     }
 }
 
 // Puts the lowest 16 bits of a number at a place, lowest byte first.
 pub fn put16(s: &mut [u8], at: usize, v: usize) {
-    copy(part_mut(s, at, 2), &v.to_le_bytes());
+    put(s, at, part(&v.to_le_bytes(), 0, 2));
 }
 
 // Puts a number of 32 bits at a place, lowest byte first.
 pub fn put32(s: &mut [u8], at: usize, v: u32) {
-    copy(part_mut(s, at, 4), &v.to_le_bytes());
+    put(s, at, &v.to_le_bytes());
 }
