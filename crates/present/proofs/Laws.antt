@@ -1,6 +1,7 @@
 -- What the functions of a move of parity owe, over plain numbers and lists.
 -- Assumes nothing.
 use Prim.Native.Nat.{ℕ, zero, suc, ◌+◌, ◌-◌, ◌*◌, ◌/◌, ◌%◌, ◌^◌, ◌<◌, ◌≤◌}
+use mathlib.Core.Bool.{Bool, true, false}
 use mathlib.Core.List.{List}
 use mathlib.Core.Path.{◌≡◌, refl, sym, ap, ap₂, subst, ◌∙◌}
 use native.Mathlib.Omega.{arith}
@@ -22,6 +23,7 @@ use Rattle.stripe.specs.Layout.{column_length, parity_from, parity_at, rows}
 use Rattle.stripe.specs.declared.Params.{Params}
 use Rattle.block.specs.Touches.{touch_word}
 use Rattle.engine.specs.Strips.{Rows, Scattered, scattered}
+use Rattle.pattern.specs.Pattern.{is_lost}
 use Rattle.present.specs.Present.{present_word, present_moved}
 use Rattle.present.specs.declared.Spot.{Spot}
 use Rattle.present.specs.Steps.{Crossing, strip_byte, Shifted, Target}
@@ -42,6 +44,16 @@ by_inverse (suc n) a b t h = sym (touch_is n a b t (suc n - 1))
 pub touch_right : (spot : Spot) (j x w : ℕ) → Crossing spot j → x ≡ inverse_of spot.q.p j (spot.q.r + spot.column) → w ≡ times_of spot.q.p spot.row (spot.q.p - 1) x → w ≡ touch_word spot.q spot.column spot.row j
 unfolding touch_word
 touch_right spot j x w c e f = f ∙ ap (times_of spot.q.p spot.row (spot.q.p - 1)) e ∙ by_inverse spot.q.p j (spot.q.r + spot.column) spot.row (omega arith)
+
+-- x is whether the parity column is lost
+module _ (q : Params) (m i t j : ℕ) (x : Bool) (e : x ≡ is_lost m (q.k + j)) where
+  pub touch_lost : x ≡ true → 0 ≡ present_word q m i t j
+  unfolding present_word
+  touch_lost h = let z : is_lost m (q.k + j) ≡ true = sym e ∙ h in rw z
+
+  pub touch_there : x ≡ false → (w : ℕ) → w ≡ touch_word q i t j → w ≡ present_word q m i t j
+  unfolding present_word
+  touch_there h w f = let z : is_lost m (q.k + j) ≡ false = sym e ∙ h in rw z f
 
 -- ---- a difference added to the touched strips of each present parity column
 

@@ -43,7 +43,6 @@ impl Spot {
     }
 
     // The rows of parity column j that the strip touches; none where the pattern has the column as lost.
-    #[tactic(auto, unfolding(crate::specs::Present::present_word))]
     fn touch_present(self, j: usize) -> u64
         requires { Crossing self j }
         ensures { result ≡ present_word self.q self.lost self.column self.row j }
