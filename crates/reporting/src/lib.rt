@@ -26,14 +26,13 @@ const ROOM: usize = (1 + Params::LARGEST_PRIME) * LINE;
 
 type Report = ArrayString<ROOM>;
 
-// The report of an input that is refused.
-fn refused(e: Refusal) -> Report
-    ensures { result.bytes ≡ refused_line e }
+// Puts the report of an input that is refused.
+fn push_refused(report: &mut Report, e: Refusal)
+    requires { report.old.bytes ≡ [] }
+    ensures { report.new.bytes ≡ refused_line e }
 {
-    let mut report = Report::new();
     report.push_str("refused");
-    push_last(&mut report, e.number());
-    report
+    push_last(report, e.number());
 }
 
 // Begins a report with the line of the parameters.
@@ -89,38 +88,40 @@ fn push_parities(report: &mut Report, wrong: u64, r: usize)
     }
 }
 
-// The report of an image of any length, or of its refusal.
-fn image_report(image: &[u8]) -> Report
-    ensures { result.bytes ≡ lines_of image.now }
+// Puts the report of an image of any length, or of its refusal.
+fn push_image(report: &mut Report, image: &[u8])
+    requires { report.old.bytes ≡ [] }
+    ensures { report.new.bytes ≡ lines_of image.now }
 {
     let q = match stripe::read(image) {
         Ok(q) => q,
-        Err(e) => return refused(e),
+        Err(e) => return push_refused(report, e),
     };
     // Check refuses no image that reading accepts.
     let Ok(wrong) = parity::check(image) else {
         unreachable!();
     };
-    let mut report = Report::new();
-    push_stripe(&mut report, q);
-    push_data(&mut report, image, q);
-    push_parities(&mut report, wrong, q.r);
-    report
+    push_stripe(report, q);
+    push_data(report, image, q);
+    push_parities(report, wrong, q.r);
 }
 
 // The same of an input of the report program; LONG comes first.
-fn input_report(input: &[u8]) -> Report
-    ensures { result.bytes ≡ report_of input.now }
+fn push_input(report: &mut Report, input: &[u8])
+    requires { report.old.bytes ≡ [] }
+    ensures { report.new.bytes ≡ report_of input.now }
 {
     if input.len() > LONGEST {
-        return refused(Refusal::Long);
+        return push_refused(report, Refusal::Long);
     }
-    image_report(input)
+    push_image(report, input)
 }
 
 // Writes the report of an image, or its refusal, on standard output.
 pub fn describe(rt: &impl Print, image: &[u8]) -> io::Result<()> {
-    rt.write_all(image_report(image).as_str().as_bytes())
+    let mut report = Report::new();
+    push_image(&mut report, image);
+    rt.write_all(report.as_str().as_bytes())
 }
 
 // Writes the report of what a reader gives; one byte above the longest tells LONG.
@@ -129,7 +130,8 @@ pub fn write_report<R: Read, W: Write>(input: &mut R, output: &mut W) -> io::Res
 {
     let mut front = [0u8; LONGEST + 1];
     let n = fronts::read_front(input, &mut front)?;
-    let report = input_report(&front[..n]);
+    let mut report = Report::new();
+    push_input(&mut report, &front[..n]);
     output.write_all(report.as_str().as_bytes())
 }
 

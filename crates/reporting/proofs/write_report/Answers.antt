@@ -5,4 +5,4 @@ use Rattle.reporting.proofs.Fronts.{report_told}
 use Rattle.reporting.proofs.write_report.Goals as goal
 
 pub returns : goal.returns
-returns g c = report_told _ _ _ _ _ _ _ (omega arith) c.in_ok-n.ensures.front (c.as_bytes.ensures.value ∙ c.as_str.ensures.value ∙ c.input_report-report.ensures) c.write_all.ensures.bytes
+returns g c = report_told _ _ _ _ _ _ _ (omega arith) c.in_ok-n.ensures.front (c.as_bytes.ensures.value ∙ c.as_str.ensures.value ∙ c.push_input.ensures) c.write_all.ensures.bytes

@@ -1,13 +1,13 @@
--- `reporting::image_report` meets its contract.
+-- `reporting::push_image` meets its contract.
 -- Assumes nothing.
 use Rattle.std.proofs.Common.{arith, ap, length, ◌∙◌}
 use Rattle.stripe.proofs.Frame.{read_image}
 use Rattle.reporting.proofs.Laws.{lines_refused, never_unchecked, columns_few, lines_told}
 use Rattle.reporting.proofs.Room.{stripe_fits, data_fit}
-use Rattle.reporting.proofs.image_report.Goals as goal
+use Rattle.reporting.proofs.push_image.Goals as goal
 
 pub returns-in-Err : goal.returns-in-Err
-returns-in-Err c = c.refused.ensures ∙ lines_refused _ _ c.read.ensures c.in-Err.e c.in-Err.is
+returns-in-Err c = c.push_refused.ensures ∙ lines_refused _ _ c.read.ensures c.in-Err.e c.in-Err.is
 
 pub unreachable-requires : goal.unreachable-requires
 unreachable-requires c = never_unchecked _ _ c.read.ensures _ c.in-Ok.is c.in_default.field-0 _ c.check.ensures c.in_default.is
